@@ -1,0 +1,2 @@
+pub use Rattle.addr_base.specs.Range
+pub use Rattle.addr_base.specs.Rights

@@ -1,0 +1,31 @@
+//! The data types of a firmware's boxes, and the definitions of what a run of them is.
+#![tactic(auto)]
+
+mod boards;
+mod events;
+mod instructions;
+mod lists;
+mod logs;
+mod parts;
+mod refusals;
+mod states;
+mod texts;
+
+pub use addr_base::{
+    BadRegion, BoxId, Kind, Line, NoCall, NotAllowed, OutOfMemory, Pair, Range, Rights, Rotated,
+    ThreadId, Ticket, Verdict,
+};
+pub use boards::{Board, HeapPart, Word};
+pub use events::{
+    Choice, Collected, Drive, Entry, Flaw, Frames, Logged, Mode, Noted, Reply, Started, UnitLine,
+    Want,
+};
+pub use instructions::{AssembleErr, BadLine, Instr, Why};
+pub use lists::{Items, Text};
+pub use logs::{End, Log, LogErr};
+pub use parts::{
+    BoxPart, Config, DevicePart, IrqPart, Item, Op, RegGate, RpcGate, ScriptWord, ThreadPart,
+};
+pub use refusals::{ConfigErr, Key, NotNext, PageErr, Refused, Spot};
+pub use states::{Awaited, Call, CallState, Context, Flat, Lines, Memory, Shared, ThreadState};
+pub use texts::{BoxText, GateTexts, GrantText, RegText, Round, RpcText, ThreadText};
