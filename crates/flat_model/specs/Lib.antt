@@ -1,2 +1,16 @@
 pub use Rattle.addr_base.specs.Range
 pub use Rattle.addr_base.specs.Rights
+pub mod Access
+pub mod AccessRows
+pub mod Calls
+pub mod Cells
+pub mod Interrupts
+pub mod Items
+pub mod KernelRows
+pub mod Local
+pub mod Memory
+pub mod Outcome
+pub mod Pages
+pub mod Placing
+pub mod Thread
+pub mod Turn

@@ -1,6 +1,7 @@
 //! The data types of a firmware's boxes, and the definitions of what a run of them is.
 #![tactic(auto)]
 
+mod accesses;
 mod boards;
 mod events;
 mod instructions;
@@ -11,6 +12,7 @@ mod refusals;
 mod states;
 mod texts;
 
+pub use accesses::Access;
 pub use addr_base::{
     BadRegion, BoxId, Kind, Line, NoCall, NotAllowed, OutOfMemory, Pair, Range, Rights, Rotated,
     ThreadId, Ticket, Verdict,
