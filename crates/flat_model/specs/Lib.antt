@@ -12,5 +12,8 @@ pub mod Memory
 pub mod Outcome
 pub mod Pages
 pub mod Placing
+pub mod Run
+pub mod Step
 pub mod Thread
 pub mod Turn
+pub mod Want
