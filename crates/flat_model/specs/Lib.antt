@@ -4,6 +4,9 @@ pub mod Access
 pub mod AccessRows
 pub mod Calls
 pub mod Cells
+pub mod Cover
+pub mod Decision
+pub mod Greatest
 pub mod Interrupts
 pub mod Items
 pub mod KernelRows
@@ -12,6 +15,7 @@ pub mod Memory
 pub mod Outcome
 pub mod Pages
 pub mod Placing
+pub mod Plan
 pub mod Run
 pub mod Step
 pub mod Thread

@@ -1,0 +1,4 @@
+pub mod Blocks
+pub mod Greatness
+pub mod Elements
+pub mod Powers
