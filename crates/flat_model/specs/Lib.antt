@@ -14,12 +14,15 @@ pub mod Legal
 pub mod Local
 pub mod Log
 pub mod Memory
+pub mod Names
+pub mod Operands
 pub mod Outcome
 pub mod Pages
 pub mod Placing
 pub mod Plan
 pub mod Run
 pub mod Script
+pub mod Sound
 pub mod Step
 pub mod Text
 pub mod Thread
