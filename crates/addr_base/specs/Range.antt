@@ -1,5 +1,5 @@
--- Which addresses a range has, and powers of two.
-use Rattle.std.specs.Prelude.{◌≡◌, ℕ, ◌+◌, ◌*◌, ◌^◌, ◌<◌, ◌≤◌, Bool, ◌&&◌, nat_le, nat_lt}
+-- Which addresses a range has.
+use Rattle.std.specs.Prelude.{ℕ, ◌+◌, ◌<◌, ◌≤◌, Bool, ◌&&◌, max, min, nat_le, nat_lt}
 use Rattle.addr_base.specs.declared.ranges.Range.{Range}
 
 -- the first address past a range
@@ -22,27 +22,14 @@ Overlaps first second = (a : ℕ) × IsIn first a × IsIn second a
 abbrev pub in_range : Range → ℕ → Bool
 in_range range a = nat_le range.base a && nat_lt a (end_of range)
 
--- whether the n bytes from a are in the range
+-- whether the n bytes from a are in the range, where n is at least 1
 abbrev pub holds_bytes : Range → ℕ → ℕ → Bool
 holds_bytes range a n = nat_le range.base a && nat_le (a + n) (end_of range)
+
+-- whether some address is in both ranges: the greater base is below the lesser end
+abbrev pub overlap : Range → Range → Bool
+overlap first second = nat_lt (max first.base second.base) (min (end_of first) (end_of second))
 
 -- where addresses that a box may hold end: the Private Peripheral Bus begins there
 abbrev pub ADDRESS_END : ℕ
 ADDRESS_END = 3758096384
-
--- the number is a power of two
-abbrev pub IsPowerOfTwo : ℕ → Type 0
-IsPowerOfTwo n = (k : ℕ) × (n ≡ 2 ^ k)
-
--- the least power of two that is at or above both bounds
-pub record IsLeastPower (low n power : ℕ) : Type 0 where
-  pub is_power : IsPowerOfTwo power
-  pub enough : n ≤ power
-  pub at_least : low ≤ power
-  pub least : (k : ℕ) → n ≤ 2 ^ k → low ≤ 2 ^ k → power ≤ 2 ^ k
-
--- the greatest power of two not above the number
-pub record IsGreatestPower (n power : ℕ) : Type 0 where
-  pub is_power : IsPowerOfTwo power
-  pub within : power ≤ n
-  pub greatest : (k : ℕ) → 2 ^ k ≤ n → 2 ^ k ≤ power

@@ -6,9 +6,11 @@ mod pairs;
 mod ranges;
 mod refusals;
 mod rights;
+#[cfg(test)]
+mod tests;
 
 pub use identity::{BoxId, Line, ThreadId, Ticket};
 pub use pairs::{BadRegion, Pair, Rotated, Verdict};
-pub use ranges::Range;
+pub use ranges::{Range, is_power, round_down, round_up};
 pub use refusals::{NoCall, NotAllowed, OutOfMemory};
 pub use rights::{Kind, Rights};
