@@ -1,4 +1,6 @@
 pub mod Blocks
-pub mod Greatness
 pub mod Elements
+pub mod Fields
+pub mod Greatness
+pub mod PageGroups
 pub mod Powers
