@@ -1,4 +1,8 @@
 pub mod Blocks
-pub mod Greatness
+pub mod Covers
 pub mod Elements
+pub mod Fields
+pub mod Greatness
+pub mod PageGroups
 pub mod Powers
+pub mod Turning
