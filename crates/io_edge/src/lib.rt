@@ -1,0 +1,10 @@
+//! What the program reads from and writes to: sources and sinks that count their faults.
+#![tactic(auto)]
+
+mod ends;
+mod streams;
+mod whole;
+
+pub use ends::{Pulled, Pushed, Sink, Source};
+pub use streams::{StdinSource, StdoutSink};
+pub use whole::{ReadErr, WriteErr, read_all, write_all};
