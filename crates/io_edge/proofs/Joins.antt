@@ -1,6 +1,6 @@
 -- Known bytes that are taken or written in two parts.
-use Rattle.std.proofs.Common.{◌≡◌, ℕ, ◌+◌, ◌≤◌, List, [], ◌++◌, length, Option, None, Some, refl, sym, ap, ◌∙◌, arith, append_assoc, length-append}
-use Rattle.std.proofs.lemmas.List.{append-nil}
+use Rattle.std.proofs.Common.{◌≡◌, ℕ, ◌+◌, ◌≤◌, List, [], ◌++◌, length, take, drop, Option, None, Some, refl, sym, ap, ◌∙◌, arith, append_assoc, length-append}
+use Rattle.std.proofs.lemmas.List.{append-nil, drop-drop, take-append-drop}
 use Rattle.std.specs.Io.KnownBytes.{append_known, prepend_known}
 use Rattle.io_edge.specs.Taken.{Takes, TakesAtMost}
 
@@ -28,3 +28,7 @@ takes-more xs ys now first second count =
 pub takes_at_most-more : {before mid : Option (List ℕ)} {n : ℕ} (xs ys : List ℕ) (now : Option (List ℕ)) → before ≡ prepend_known xs mid → mid ≡ prepend_known ys now → length xs + length ys ≤ n → TakesAtMost n before now
 takes_at_most-more xs ys now first second bound =
     (xs ++ ys, omega (arith, length-append xs ys), first ∙ ap (prepend_known xs) second ∙ prepend_known-append xs ys now)
+
+-- what is left after the next n bytes were taken
+pub taken_front : (bytes : List ℕ) (at n : ℕ) (front : List ℕ) → front ≡ take n (drop at bytes) → drop at bytes ≡ front ++ drop (at + n) bytes
+taken_front bytes at n front taken = rw (taken, ← drop-drop n at bytes, take-append-drop) refl

@@ -2,9 +2,13 @@
 #![tactic(auto)]
 
 mod ends;
+mod sinks;
+mod sources;
 mod streams;
 mod whole;
 
 pub use ends::{Pulled, Pushed, Sink, Source};
+pub use sinks::{MemSink, NullSink};
+pub use sources::{MemSource, SureSource};
 pub use streams::{StdinSource, StdoutSink};
 pub use whole::{ReadErr, WriteErr, read_all, write_all};

@@ -1,4 +1,4 @@
-ghost use Rattle.std.specs.Prelude.{◌≡◌, ◌≢◌, ℕ, ◌+◌, ◌^◌, ◌<◌, ◌≤◌, length, IfOk, IfErr, OnOk, OnErr, IsErr};
+ghost use Rattle.std.specs.Prelude.{◌≡◌, ℕ, ◌+◌, ◌^◌, ◌<◌, ◌≤◌, length, IfOk, OnOk, OnErr, IsErr};
 ghost use Rattle.std.specs.Result.{IsErrOf};
 ghost use Rattle.std.specs.Io.KnownBytes.{IsAtEnd, append_known, prepend_known};
 ghost use Rattle.io_edge.specs.Counts.{Rose};
@@ -41,7 +41,7 @@ pub fn read_all<S: Source>(alloc: Global, src: &mut S, limit: usize) -> Result<V
 
     // Too long is the answer exactly where more than `limit` bytes came.
     ensures too_long { IsErrOf result ReadErr.TooLong → Takes (limit + 1) (S.left src.old) (S.left src.new) }
-    ensures others { IfErr result (λ e. e ≢ ReadErr.TooLong → TakesAtMost limit (S.left src.old) (S.left src.new)) }
+    ensures others { ¬ IsErrOf result ReadErr.TooLong → TakesAtMost limit (S.left src.old) (S.left src.new) }
 
     ensures fault_only { IsErrOf result ReadErr.Fault → Rose (S.faults src.old) (S.faults src.new) }
     ensures later { S.faults src.old ≤ S.faults src.new }
@@ -55,9 +55,8 @@ pub fn read_all<S: Source>(alloc: Global, src: &mut S, limit: usize) -> Result<V
                 if all.len() + count > limit {
                     return Err(ReadErr::TooLong);
                 }
-                if all.extend_from_slice(&buf[..count]).is_err() {
-                    return Err(ReadErr::Memory);
-                }
+                all.extend_from_slice(&buf[..count])
+                    .map_err(|_| ReadErr::Memory)?;
             }
             Pulled::End => return Ok(all),
             Pulled::Failed => return Err(ReadErr::Fault),

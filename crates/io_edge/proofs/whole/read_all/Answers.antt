@@ -6,6 +6,6 @@ pub returns-then-len-count-clause-too_long : goal.returns-then-len-count-clause-
 returns-then-len-count-clause-too_long g c = λ _.
     takes-more c.reads.all.items (take c.in-Bytes.count c.read.new.buf) _ c.reads.invariant.so_far c.in-Bytes.ensures.bytes (omega (arith, length-take {A = ℕ}, c.reads.all.ok.0, c.in-Bytes.ensures.pull.0, c.in-Bytes.ensures.pull.1))
 
-pub returns-then-is_err-clause-others : goal.returns-then-is_err-clause-others
-returns-then-is_err-clause-others g c = λ _.
+pub returns-in_err-map_err-in-Bytes-clause-others : goal.returns-in_err-map_err-in-Bytes-clause-others
+returns-in_err-map_err-in-Bytes-clause-others g c = λ _.
     takes_at_most-more c.reads.all.items (take c.in-Bytes.count c.read.new.buf) _ c.reads.invariant.so_far c.in-Bytes.ensures.bytes (omega (arith, length-take {A = ℕ}))
