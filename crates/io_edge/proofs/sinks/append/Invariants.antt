@@ -1,0 +1,9 @@
+use Rattle.std.proofs.Common.{◌≡◌, ◌++◌, take}
+use Rattle.std.specs.Vec.{vec_capacity}
+use Rattle.io_edge.proofs.sinks.append.Given as goal
+
+abbrev pub invariant-loop-byte : goal.invariant-loop-byte
+invariant-loop-byte l = record {
+  items : l.bytes.items ≡ l.fn.bytes.items ++ take l.byte-index l.piece;
+  capacity : vec_capacity l.bytes ≡ vec_capacity l.fn.bytes;
+}

@@ -1,0 +1,10 @@
+-- Counts that stand still at the last number of 64 bits.
+use Rattle.std.specs.Prelude.{ℕ, ◌+◌, ◌-◌, ◌^◌, ◌≤◌, min}
+
+-- the count one higher, or the same at the last number
+abbrev pub next_count : ℕ → ℕ
+next_count n = min (n + 1) (2 ^ 64 - 1)
+
+-- the count rose, or it stood at the last number before
+abbrev pub Rose : ℕ → ℕ → Type 0
+Rose before now = next_count before ≤ now

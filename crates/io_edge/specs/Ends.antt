@@ -1,0 +1,31 @@
+-- What one read or one write may answer.
+use Rattle.std.specs.Prelude.{ℕ, ◌≤◌, List}
+use Rattle.std.specs.declared.option.Option.{Option}
+use Rattle.std.specs.Io.KnownBytes.{IsAtEnd}
+use Rattle.io_edge.specs.declared.ends.Pulled.{Pulled}
+use Rattle.io_edge.specs.declared.ends.Pulled.TheVariants as pulled
+use Rattle.io_edge.specs.declared.ends.Pushed.{Pushed}
+use Rattle.io_edge.specs.declared.ends.Pushed.TheVariants as pushed
+use Rattle.io_edge.specs.Counts.{Rose}
+
+-- how many bytes a read gave
+abbrev pub pulled_count : Pulled → ℕ
+pulled_count (pulled.Bytes n) = n
+pulled_count pulled.End = 0
+pulled_count pulled.Failed = 0
+
+-- how many bytes a write took
+abbrev pub pushed_count : Pushed → ℕ
+pushed_count (pushed.Bytes n) = n
+pushed_count pushed.Failed = 0
+
+-- A read gives from 1 byte to the room that there is, it finds the end only where nothing is left, and it fails only where the count of faults rose.
+abbrev pub IsPull : ℕ → Option (List ℕ) → ℕ → ℕ → Pulled → Type 0
+IsPull room left before now (pulled.Bytes n) = (1 ≤ n) × (n ≤ room)
+IsPull room left before now pulled.End = IsAtEnd left
+IsPull room left before now pulled.Failed = Rose before now
+
+-- A write takes from 1 byte to all that there are, and it fails only where the count of faults rose.
+abbrev pub IsPush : ℕ → ℕ → ℕ → Pushed → Type 0
+IsPush offered before now (pushed.Bytes n) = (1 ≤ n) × (n ≤ offered)
+IsPush offered before now pushed.Failed = Rose before now

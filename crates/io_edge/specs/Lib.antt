@@ -1,0 +1,6 @@
+pub mod Counts
+pub mod Ends
+pub mod Sinks
+pub mod Sources
+pub mod Taken
+pub mod Written
