@@ -1,3 +1,4 @@
+pub use Rattle.addr_base.specs.Powers
 pub use Rattle.addr_base.specs.Range
 pub use Rattle.addr_base.specs.Rights
 pub mod Access
@@ -15,6 +16,7 @@ pub mod Local
 pub mod Log
 pub mod Memory
 pub mod Names
+pub mod OneLog
 pub mod Operands
 pub mod Outcome
 pub mod Pages

@@ -1,7 +1,8 @@
 -- Where the boxes' own memory lies, and what is left for all (docs/MODEL.md, "Placing").
 use Rattle.std.specs.Prelude.{◌≡◌, ℕ, ◌+◌, ◌-◌, ◌%◌, ◌^◌, ◌<◌, ◌≤◌, Option, Some, None, List, [], ◌∷◌}
 use Rattle.addr_base.specs.declared.ranges.Range.{Range}
-use Rattle.addr_base.specs.Range.{IsPowerOfTwo, end_of}
+use Rattle.std.specs.Int.{IsPowerOfTwo}
+use Rattle.addr_base.specs.Range.{end_of}
 use Rattle.flat_model.specs.declared.boards.Board.{Board}
 use Rattle.flat_model.specs.declared.boards.HeapPart.{HeapPart}
 use Rattle.flat_model.specs.declared.parts.BoxPart.{BoxPart}

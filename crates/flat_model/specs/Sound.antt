@@ -1,11 +1,12 @@
 -- A sound configuration: what every accepted input gives, and every run stands on.
 use Rattle.std.specs.Prelude.{◌≡◌, ℕ, ◌+◌, ◌*◌, ◌%◌, ◌<◌, ◌≤◌, Bool, true, false, ◌&&◌, ◌||◌, not, ◌⊎◌, nat_eq, nat_le, IfSome, Option, Some, None, List, [], ◌∷◌, ◌++◌, map, length, replicate, sum, sum_by, count_by}
-use Rattle.std.specs.List.{AllByRecursion, flat_map, list_all, list_any}
+use Rattle.std.specs.Int.{IsPowerOfTwo}
+use Rattle.std.specs.List.{AllByRecursion, flat_map, list_any}
 use Rattle.addr_base.specs.declared.identity.BoxId.{BoxId}
 use Rattle.addr_base.specs.declared.identity.Line.{Line}
 use Rattle.addr_base.specs.declared.ranges.Range.{Range}
 use Rattle.addr_base.specs.declared.rights.Rights.{Rights}
-use Rattle.addr_base.specs.Range.{ADDRESS_END, IsIn, IsPowerOfTwo, end_of, in_range, holds_bytes}
+use Rattle.addr_base.specs.Range.{ADDRESS_END, end_of, in_range, holds_bytes}
 use Rattle.flat_model.specs.declared.boards.Board.{Board}
 use Rattle.flat_model.specs.declared.boards.HeapPart.{HeapPart}
 use Rattle.flat_model.specs.declared.boards.Word.{Word}
