@@ -1,18 +1,26 @@
 //! The data types of a firmware's boxes, and the definitions of what a run of them is.
 #![tactic(auto)]
 
+mod access_rule;
+mod access_rows;
 mod accesses;
+mod actors;
+mod banks;
 mod boards;
 mod events;
 mod instructions;
+mod interrupts;
 mod lists;
+mod local;
 mod logs;
 mod parts;
 mod refusals;
 mod states;
 mod texts;
+mod waiting;
 
 pub use accesses::Access;
+pub use actors::Who;
 pub use addr_base::{
     BadRegion, BoxId, Kind, Line, NoCall, NotAllowed, OutOfMemory, Pair, Range, Rights, Rotated,
     ThreadId, Ticket, Verdict,
