@@ -29,6 +29,7 @@ pub mod Step
 pub mod Text
 pub mod Thread
 pub mod Trace
+pub mod Today
 pub mod Turn
 pub mod UnitRun
 pub mod Want

@@ -17,6 +17,7 @@ mod parts;
 mod refusals;
 mod states;
 mod texts;
+mod turn;
 mod waiting;
 
 pub use accesses::Access;
@@ -38,4 +39,5 @@ pub use parts::{
 };
 pub use refusals::{ConfigErr, Key, NotNext, PageErr, Refused, Spot};
 pub use states::{Awaited, Call, CallState, Context, Flat, Lines, Memory, Shared, ThreadState};
+pub use turn::has_ended;
 pub use texts::{BoxText, GateTexts, GrantText, RegText, Round, RpcText, ThreadText};
