@@ -1,4 +1,5 @@
 pub mod Blocks
+pub mod Copies
 pub mod Covers
 pub mod Elements
 pub mod Fields
@@ -6,5 +7,6 @@ pub mod Greatness
 pub mod PageGroups
 pub mod PageLemmas
 pub mod Powers
+pub mod TodayLemmas
 pub mod Turning
 pub mod Widths

@@ -26,6 +26,7 @@ pub mod Run
 pub mod Script
 pub mod Sound
 pub mod Step
+pub mod Stepping
 pub mod Text
 pub mod Thread
 pub mod Trace
