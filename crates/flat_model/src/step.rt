@@ -1,6 +1,6 @@
 ghost use Rattle.std.specs.Prelude.{◌≡◌, ℕ, ◌+◌, ◌^◌, ◌<◌, ◌≤◌, Some, None, IfSome, true, false, slice_get};
 ghost use Rattle.std.specs.List.{list_any};
-ghost use Rattle.std.specs.Option.{ForSome};
+ghost use Rattle.std.specs.Option.{ForSome, option_copied};
 ghost use Rattle.flat_model.specs.Interrupts as interrupts;
 ghost use Rattle.flat_model.specs.Step as spec;
 ghost use Rattle.flat_model.specs.Stepping.{CanStep};
@@ -41,8 +41,21 @@ fn turn_in(
     reply
 }
 
+// The thread with this number in the configuration.
+fn program_of(cfg: &Config, t: ThreadId) -> Option<&ThreadPart>
+    ensures { option_copied result ≡ slice_get cfg.now.threads t.0 }
+{
+    cfg.threads.as_slice().get(t.0 as usize)
+}
+
+/// The thread with this number.
+pub fn thread_of(flat: &Flat, t: ThreadId) -> Option<ThreadState>
+    ensures { result ≡ slice_get flat.now.threads t.0 }
+{
+    flat.threads.as_slice().get(t.0 as usize).copied()
+}
+
 /// A turn of a thread, where there is one.
-#[tactic(auto, using(crate::proofs::TodayLemmas::config_today))]
 pub fn turn_at(cfg: &Config, flat: &mut Flat, t: ThreadId, room: bool) -> Reply
     requires today { RunsToday cfg.now }
     requires steps { ForSome (slice_get flat.old.threads t.0) CanStep }
@@ -52,11 +65,10 @@ pub fn turn_at(cfg: &Config, flat: &mut Flat, t: ThreadId, room: bool) -> Reply
             ≡ (flat.new, result)
     }
 {
-    let index = t.0 as usize;
-    let Some(program) = cfg.threads.as_slice().get(index) else {
+    let Some(program) = program_of(cfg, t) else {
         return Reply::Ended;
     };
-    let Some(thread) = flat.threads.as_slice().get(index).copied() else {
+    let Some(thread) = thread_of(flat, t) else {
         return Reply::Ended;
     };
     turn_in(cfg, flat, t, room, program, thread)
