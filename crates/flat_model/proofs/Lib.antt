@@ -8,5 +8,7 @@ pub mod PageGroups
 pub mod PageLemmas
 pub mod Powers
 pub mod TodayLemmas
+pub mod TraceLemmas
 pub mod Turning
+pub mod WantLemmas
 pub mod Widths
