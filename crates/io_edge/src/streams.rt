@@ -1,5 +1,6 @@
-ghost use Rattle.std.specs.Prelude.{◌≡◌, ℕ, None};
+ghost use Rattle.std.specs.Prelude.{◌≡◌, ℕ, ◌<◌, ◌≤◌, None, length};
 ghost use Rattle.std.specs.Io.{WritesAtMost};
+ghost use Rattle.io_edge.specs.Ends.{IsPull, IsPush, faults_after_pull, faults_after_push};
 
 use crate::ends::{Pulled, Pushed, Sink, Source};
 use std::io::{Read, Result, Write};
@@ -34,7 +35,15 @@ impl<R: Read> Source for StdinSource<R> {
 
     ghost faults = { λ source. source };
 
-    fn read(&mut self, buf: &mut [u8]) -> Pulled {
+    fn read(&mut self, buf: &mut [u8]) -> Pulled
+        requires { 0 < length buf.old }
+
+        ensures pull { IsPull (length buf.old) None self.old self.new result }
+        ensures later { self.old ≤ self.new }
+
+        // The count rises by one where it failed, and nowhere else.
+        ensures counted { self.new ≡ faults_after_pull self.old result }
+    {
         match self.stream.read(buf) {
             Ok(0) => Pulled::End,
             Ok(count) => Pulled::Bytes(count),
@@ -46,7 +55,7 @@ impl<R: Read> Source for StdinSource<R> {
     }
 }
 
-/// Standard output as a sink. It tells nothing of the bytes.
+/// Standard output as a sink. It tells nothing of the bytes, and a flush that fails is a fault too.
 #[derive(Drop)]
 pub struct StdoutSink<W> {
     stream: W,
@@ -75,10 +84,18 @@ impl<W: Write> Sink for StdoutSink<W> {
 
     ghost faults = { λ sink. sink };
 
-    fn write(&mut self, piece: &[u8]) -> Pushed {
+    fn write(&mut self, piece: &[u8]) -> Pushed
+        requires { 0 < length piece.now }
+
+        ensures push { IsPush (length piece.now) self.old self.new result }
+        ensures later { self.old ≤ self.new }
+
+        // The count rises by one where it failed, and nowhere else.
+        ensures counted { self.new ≡ faults_after_push self.old result }
+    {
         match write_through(&mut self.stream, piece) {
             Ok(count) if count > 0 => Pushed::Bytes(count),
-            // A stream that takes nothing would hold up its caller for ever.
+            // A stream that takes nothing would keep its caller going for ever.
             _ => {
                 self.faults = self.faults.saturating_add(1);
                 Pushed::Failed
