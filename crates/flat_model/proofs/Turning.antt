@@ -93,7 +93,7 @@ top_slot regions flash own top enough =
 pub matches-no_pair : (a : ℕ) → matches no_pair a ≡ false
 matches-no_pair a = refl
 
-matches_at-some : (pairs : List Pair) (a j : ℕ) (p : Pair) → slice_get pairs j ≡ Some p → matches_at pairs a j ≡ matches p a
+pub matches_at-some : (pairs : List Pair) (a j : ℕ) (p : Pair) → slice_get pairs j ≡ Some p → matches_at pairs a j ≡ matches p a
 matches_at-some pairs a j p found = ap (λ o. option_map_or (λ q. matches q a) o false) found
 
 matched : (pairs : List Pair) (a j : ℕ) → matches_at pairs a j ≡ true → (p : Pair) × (slice_get pairs j ≡ Some p) × (matches p a ≡ true)
