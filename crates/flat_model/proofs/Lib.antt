@@ -4,6 +4,7 @@ pub mod Elements
 pub mod Fields
 pub mod Greatness
 pub mod PageGroups
+pub mod PagePairs
 pub mod Pieces
 pub mod Powers
 pub mod Recovery
