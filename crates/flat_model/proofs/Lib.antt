@@ -3,6 +3,7 @@ pub mod Covers
 pub mod Elements
 pub mod Fields
 pub mod Greatness
+pub mod HeldBytes
 pub mod PageGroups
 pub mod PagePairs
 pub mod Pieces

@@ -18,18 +18,18 @@ use Rattle.flat_model.proofs.Elements.{each-append, each-flat_map, list_any_at_g
 use Rattle.flat_model.proofs.PageGroups.{IsPage, gives_pages, in_group, is_region-group, matches-group, pair_gives-group}
 
 -- a heap of whole groups whose base is a multiple of a group
-pub record IsHeap (heap : HeapPart) : Type 0 where
+pub record IsGrouped (heap : HeapPart) : Type 0 where
   pub page_is : IsPage heap.page
   pub groups : heap.count % 8 ≡ 0
   pub whole : heap.base % (8 * heap.page) ≡ 0
 
 -- whether the address is in the heap
-abbrev pub in_pages : HeapPart → ℕ → Bool
-in_pages heap a = nat_le heap.base a && nat_lt a (heap.base + heap.count * heap.page)
+abbrev pub in_all_pages : HeapPart → ℕ → Bool
+in_all_pages heap a = nat_le heap.base a && nat_lt a (heap.base + heap.count * heap.page)
 
 -- whether the address is in a page of the box
 abbrev pub own_page : HeapPart → List (Option BoxId) → ℕ → ℕ → Bool
-own_page heap owners b a = in_pages heap a && owns owners b ((a - heap.base) / heap.page)
+own_page heap owners b a = in_all_pages heap a && owns owners b ((a - heap.base) / heap.page)
 
 -- ---- the mask
 
@@ -122,17 +122,17 @@ in_own_group-page heap owners b g a page below found =
     let frame : (a - heap.base) / heap.page ≡ 8 * g + (a - low) / heap.page =
         frame_of (a - heap.base) g heap.page ((a - low) / heap.page) some (omega (arith, it.after)) (ap (λ x. x / heap.page) offset) in
     let up_to : (8 * (g + 1)) * heap.page ≤ heap.count * heap.page = mul-le (8 * (g + 1)) heap.page heap.count heap.page (omega arith) (omega arith) in
-    and_from (in_pages heap a) (owns owners b ((a - heap.base) / heap.page))
+    and_from (in_all_pages heap a) (owns owners b ((a - heap.base) / heap.page))
         (and_from (nat_le heap.base a) (nat_lt a (heap.base + heap.count * heap.page))
             (le-leb heap.base a (omega (arith, it.after)))
             (lt-ltb a (heap.base + heap.count * heap.page) (omega (arith, up_to, it.before))))
         (ap (owns owners b) frame ∙ it.owned)
 
 -- an address of a page of the box is in its group
-page_in_own_group : (heap : HeapPart) (owners : List (Option BoxId)) (b a : ℕ) → IsHeap heap → own_page heap owners b a ≡ true → (g : ℕ) × (g < heap.count / 8) × (in_own_group heap owners b g a ≡ true)
+page_in_own_group : (heap : HeapPart) (owners : List (Option BoxId)) (b a : ℕ) → IsGrouped heap → own_page heap owners b a ≡ true → (g : ℕ) × (g < heap.count / 8) × (in_own_group heap owners b g a ≡ true)
 page_in_own_group heap owners b a it found =
     let page : ℕ = heap.page in
-    let outer = and_parts (in_pages heap a) (owns owners b ((a - heap.base) / page)) found in
+    let outer = and_parts (in_all_pages heap a) (owns owners b ((a - heap.base) / page)) found in
     let inner = and_parts (nat_le heap.base a) (nat_lt a (heap.base + heap.count * page)) outer.0 in
     let after : heap.base ≤ a = leb-true heap.base a inner.0 in
     let before : a < heap.base + heap.count * page = ltb-true a (heap.base + heap.count * page) inner.1 in
@@ -168,7 +168,7 @@ no_group base page a = rw (zero-div (2 ^ ((a - base) / page))) (last (nat_le bas
   last true = refl
   last false = refl
 
-OfPages-group : (heap : HeapPart) (owners : List (Option BoxId)) (b g : ℕ) → IsHeap heap → g < heap.count / 8 → OfPages heap owners b (group_pair (heap.base + 8 * g * heap.page) heap.page (owned_mask owners b (8 * g) 8))
+OfPages-group : (heap : HeapPart) (owners : List (Option BoxId)) (b g : ℕ) → IsGrouped heap → g < heap.count / 8 → OfPages heap owners b (group_pair (heap.base + 8 * g * heap.page) heap.page (owned_mask owners b (8 * g) 8))
 OfPages-group heap owners b g it below =
     let low : ℕ = heap.base + 8 * g * heap.page in
     let mask : ℕ = owned_mask owners b (8 * g) 8 in
@@ -180,14 +180,14 @@ OfPages-group heap owners b g it below =
         inside = λ a found. in_own_group-page heap owners b g a it.page_is below (sym (matches-group low heap.page mask a it.page_is small) ∙ found);
     }
 
-each-page_group : (heap : HeapPart) (owners : List (Option BoxId)) (b g : ℕ) → IsHeap heap → g < heap.count / 8 → AllByRecursion (OfPages heap owners b) (page_group heap owners b g)
+each-page_group : (heap : HeapPart) (owners : List (Option BoxId)) (b g : ℕ) → IsGrouped heap → g < heap.count / 8 → AllByRecursion (OfPages heap owners b) (page_group heap owners b g)
 each-page_group heap owners b g it below = either (nat_eq (owned_mask owners b (8 * g) 8) 0)
  where
   either : (t : Bool) → AllByRecursion (OfPages heap owners b) (if t then [] else (group_pair (heap.base + 8 * g * heap.page) heap.page (owned_mask owners b (8 * g) 8) ∷ []))
   either true = tt
   either false = (OfPages-group heap owners b g it below, tt)
 
-list_any-page_group : (heap : HeapPart) (owners : List (Option BoxId)) (b g a : ℕ) → IsHeap heap → list_any (λ p. matches p a) (page_group heap owners b g) ≡ in_own_group heap owners b g a
+list_any-page_group : (heap : HeapPart) (owners : List (Option BoxId)) (b g a : ℕ) → IsGrouped heap → list_any (λ p. matches p a) (page_group heap owners b g) ≡ in_own_group heap owners b g a
 list_any-page_group heap owners b g a it = either (nat_eq (owned_mask owners b (8 * g) 8) 0) refl
  where
   low : ℕ
@@ -224,14 +224,14 @@ module _ {X Y : Type 0} (p : Y → Bool) (f : X → List Y) where
       list_any-append p (f y) (flat_map f ys) ∙ or_right (list_any p (f y)) (list_any p (flat_map f ys)) (list_any-flat_map_at ys i x found some)
 
 -- each pair of the page groups is valid, gives reads and writes, and stays in the box's pages
-pub each-page_pairs : (heap : HeapPart) (owners : List (Option BoxId)) (b : ℕ) → IsHeap heap → AllByRecursion (OfPages heap owners b) (page_pairs (Some heap) owners b)
+pub each-page_pairs : (heap : HeapPart) (owners : List (Option BoxId)) (b : ℕ) → IsGrouped heap → AllByRecursion (OfPages heap owners b) (page_pairs (Some heap) owners b)
 each-page_pairs heap owners b it =
     each-flat_map (page_group heap owners b) (λ g. g < heap.count / 8) (OfPages heap owners b)
         (λ g below. each-page_group heap owners b g it below) (range_with_len 0 (heap.count / 8))
         (each-range (λ g. g < heap.count / 8) 0 (heap.count / 8) (λ k low high. omega arith))
 
 -- and together they have every address of them
-pub list_any-page_pairs : (heap : HeapPart) (owners : List (Option BoxId)) (b a : ℕ) → IsHeap heap → own_page heap owners b a ≡ true → list_any (λ p. matches p a) (page_pairs (Some heap) owners b) ≡ true
+pub list_any-page_pairs : (heap : HeapPart) (owners : List (Option BoxId)) (b a : ℕ) → IsGrouped heap → own_page heap owners b a ≡ true → list_any (λ p. matches p a) (page_pairs (Some heap) owners b) ≡ true
 list_any-page_pairs heap owners b a it found =
     let place = page_in_own_group heap owners b a it found in
     list_any-flat_map_at (λ p. matches p a) (page_group heap owners b) (range_with_len 0 (heap.count / 8)) place.0 place.0

@@ -1,6 +1,6 @@
 -- What the regions of a box tell, whatever rotated in before.
 use Rattle.std.proofs.Common.{◌≡◌, ◌≢◌, ℕ, zero, suc, ◌+◌, ◌-◌, ◌*◌, ◌<◌, ◌≤◌, Bool, true, false, List, [], ◌∷◌, ◌++◌, length, replicate, set, Option, Some, None, refl, sym, ◌∙◌, ap, subst, arith, inl, inr, ◌⊎◌}
-use Rattle.std.specs.Prelude.{◌&&◌, ◌||◌, not, nat_eq, is_some, if◌then◌else◌}
+use Rattle.std.specs.Prelude.{◌&&◌, ◌||◌, not, nat_eq, slice_set, if◌then◌else◌}
 use Rattle.std.specs.List.{AllByRecursion, list_any, slice_get}
 use Rattle.std.specs.Option.{option_map_or}
 use Rattle.std.proofs.lemmas.Bool.{cases_Bool, cases_lt, cases_eq, false≢true, and_parts, and_from, cond-true, cond-false}
@@ -13,10 +13,18 @@ use Rattle.addr_base.specs.declared.rights.Kind.{Kind}
 use Rattle.addr_base.specs.declared.rights.Kind.TheVariants.{Read, Write, Fetch}
 use Rattle.flat_model.specs.Greatest.{greatest, IsGreatest, Says}
 use Rattle.flat_model.specs.Decision.{decision, gives_at, is_granted, matches, matches_at, pair_gives, verdict_of}
-use Rattle.flat_model.specs.Plan.{first_serving, no_pair, rotated_pair, serves, slots_from, touched_pairs}
+use Rattle.flat_model.specs.Plan.{first_serving, no_pair, slots_from}
 use Rattle.flat_model.proofs.Elements.{each-get, list_any_found, slice_get_some, slice_get-set_same, slice_get-set_other}
 use Rattle.flat_model.proofs.Greatness.{Says-greatest}
 use Rattle.flat_model.proofs.PageGroups.{gives_pages}
+
+-- the pair that rotates in at an access: the first that serves it, where the regions deny it
+abbrev pub rotated_pair : List Pair → List Pair → ℕ → Kind → Option Pair
+rotated_pair plan pairs a kind = if is_granted (decision pairs a kind) then None else first_serving a kind plan
+
+-- the regions once that pair stands in the circle's slot
+abbrev pub touched_pairs : List Pair → List Pair → ℕ → ℕ → Kind → List Pair
+touched_pairs plan pairs slot a kind = option_map_or (slice_set pairs slot) (rotated_pair plan pairs a kind) pairs
 
 -- the slot is on the circle of a unit of so many regions
 abbrev pub OnCircle : ℕ → ℕ → Type 0
