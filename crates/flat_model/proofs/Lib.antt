@@ -7,6 +7,7 @@ pub mod HeldBytes
 pub mod PageGroups
 pub mod PagePairs
 pub mod Pieces
+pub mod Placed
 pub mod Powers
 pub mod Recovery
 pub mod Turning
