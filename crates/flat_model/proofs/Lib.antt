@@ -10,4 +10,5 @@ pub mod Pieces
 pub mod Placed
 pub mod Powers
 pub mod Recovery
+pub mod Suited
 pub mod Turning

@@ -21,7 +21,7 @@ ArePiecesApart [] = Unit {0}
 ArePiecesApart (x ∷ xs) =
     ((a : ℕ) → x.has a ≡ true → AllByRecursion (λ y. y.has a ≡ false) xs) × ArePiecesApart xs
 
-none_held : (xs : List Piece) (a : ℕ) (kind : Kind) → AllByRecursion (λ y. y.has a ≡ false) xs → held_by xs a kind ≡ false
+pub none_held : (xs : List Piece) (a : ℕ) (kind : Kind) → AllByRecursion (λ y. y.has a ≡ false) xs → held_by xs a kind ≡ false
 none_held [] a kind each = refl
 none_held (x ∷ xs) a kind each = rw each.0 (none_held xs a kind each.1)
 
