@@ -2,6 +2,8 @@ pub mod Blocks
 pub mod Covers
 pub mod Elements
 pub mod Fields
+pub mod Flushing
+pub mod Granted
 pub mod Greatness
 pub mod HeldBytes
 pub mod PageGroups
