@@ -1,8 +1,8 @@
 -- The regions of a box's page groups: they have exactly the addresses of its pages.
-use Rattle.std.proofs.Common.{◌≡◌, ◌≢◌, ℕ, zero, suc, ◌+◌, ◌-◌, ◌*◌, ◌/◌, ◌%◌, ◌^◌, ◌<◌, ◌≤◌, Bool, true, false, List, [], ◌∷◌, ◌++◌, length, Option, Some, None, refl, sym, ◌∙◌, ap, subst, arith, inl, inr, ◌⊎◌}
+use Rattle.std.proofs.Common.{◌≡◌, ℕ, zero, suc, ◌+◌, ◌-◌, ◌*◌, ◌/◌, ◌%◌, ◌^◌, ◌<◌, ◌≤◌, Bool, true, false, List, [], ◌∷◌, Option, Some, refl, sym, ◌∙◌, ap, subst, arith, inl, inr}
 use Rattle.std.specs.Prelude.{◌&&◌, ◌||◌, nat_eq, nat_le, nat_lt, if◌then◌else◌}
 use Rattle.std.specs.List.{AllByRecursion, flat_map, list_any, range_with_len, slice_get}
-use Rattle.std.proofs.lemmas.Bool.{and_parts, and_from, cases_Bool, cases_lt, cond-true, cond-false, eqb-true, eqb-false, eq-eqb, false≢true, leb-true, ltb-true, le-leb, lt-ltb, or_left, or_right, or_cases}
+use Rattle.std.proofs.lemmas.Bool.{and_parts, and_from, cases_lt, eqb-true, leb-true, ltb-true, le-leb, lt-ltb, or_left, or_right}
 use Rattle.std.proofs.lemmas.List.Folds.{list_any-append}
 use Rattle.std.proofs.lemmas.Nat.{div-mul-add, div_below, div-add-mod', mod_below, mul-le, pow_pos}
 use Rattle.std.proofs.lemmas.Nat.Bits.{bit_at_cat_low, bit_at_cat_high}
@@ -14,7 +14,7 @@ use Rattle.flat_model.specs.declared.boards.HeapPart.{HeapPart}
 use Rattle.flat_model.specs.Cover.{group_pair}
 use Rattle.flat_model.specs.Decision.{is_region, matches, pair_gives}
 use Rattle.flat_model.specs.Plan.{owned_mask, owns, page_group, page_pairs}
-use Rattle.flat_model.proofs.Elements.{each-append, each-flat_map, list_any_at_get}
+use Rattle.flat_model.proofs.Elements.{each-flat_map}
 use Rattle.flat_model.proofs.PageGroups.{IsPage, gives_pages, in_group, is_region-group, matches-group, pair_gives-group}
 
 -- a heap of whole groups whose base is a multiple of a group
@@ -49,7 +49,7 @@ owned_mask_below owners b first (suc n) =
 pub owned_mask_bit : (owners : List (Option BoxId)) (b first n i : ℕ) → i < n → nat_eq (owned_mask owners b first n / 2 ^ i % 2) 1 ≡ owns owners b (first + i)
 owned_mask_bit owners b first zero i below = absurd (omega arith)
 owned_mask_bit owners b first (suc n) i below = elim (cases_lt i n) [
-    inl less ↦
+  | inl less ↦
       ap (λ m. nat_eq (m / 2 ^ i % 2) 1) (mask_step (owned_mask owners b first n) n (owns owners b (first + n)))
       ∙ ap (λ x. nat_eq x 1) (bit_at_cat_low (if owns owners b (first + n) then 1 else 0) n (owned_mask owners b first n) i less)
       ∙ owned_mask_bit owners b first n i less
@@ -61,12 +61,13 @@ owned_mask_bit owners b first (suc n) i below = elim (cases_lt i n) [
       ∙ highest (owns owners b (first + n))
       ∙ ap (λ j. owns owners b (first + j)) (sym same)
 ]
- where
-  zero_less : (i n : ℕ) → i ≡ n → i - n ≡ 0
-  zero_less i n same = omega arith
-  highest : (o : Bool) → nat_eq ((if o then 1 else 0) / 2 ^ 0 % 2) 1 ≡ o
-  highest true = refl
-  highest false = refl
+  where
+    zero_less : (i n : ℕ) → i ≡ n → i - n ≡ 0
+    zero_less i n same = omega arith
+
+    highest : (o : Bool) → nat_eq ((if o then 1 else 0) / 2 ^ 0 % 2) 1 ≡ o
+    highest true = refl
+    highest false = refl
 
 -- ---- one group
 
@@ -97,10 +98,10 @@ InGroup-from heap owners b g a page found =
     let before : a < low + 8 * heap.page = ltb-true a (low + 8 * heap.page) inner.1 in
     let within : (a - low) / heap.page < 8 = div_below (a - low) heap.page 8 (omega (arith, page.is_power, pow_pos page.exponent)) (omega arith) in
     record {
-        after = after;
-        before = before;
-        owned = sym (owned_mask_bit owners b (8 * g) 8 ((a - low) / heap.page) within) ∙ outer.1;
-        within = within;
+      after = after;
+      before = before;
+      owned = sym (owned_mask_bit owners b (8 * g) 8 ((a - low) / heap.page) within) ∙ outer.1;
+      within = within;
     }
 
 -- the frame counted in the heap is the one counted in the group, past the groups before
@@ -120,13 +121,13 @@ in_own_group-page heap owners b g a page below found =
     let offset : (a - heap.base) - 8 * g * heap.page ≡ a - low = omega arith in
     let some : 0 < heap.page = omega (arith, page.is_power, pow_pos page.exponent) in
     let frame : (a - heap.base) / heap.page ≡ 8 * g + (a - low) / heap.page =
-        frame_of (a - heap.base) g heap.page ((a - low) / heap.page) some (omega (arith, it.after)) (ap (λ x. x / heap.page) offset) in
+    frame_of (a - heap.base) g heap.page ((a - low) / heap.page) some (omega (arith, it.after)) (ap (λ x. x / heap.page) offset) in
     let up_to : (8 * (g + 1)) * heap.page ≤ heap.count * heap.page = mul-le (8 * (g + 1)) heap.page heap.count heap.page (omega arith) (omega arith) in
     and_from (in_all_pages heap a) (owns owners b ((a - heap.base) / heap.page))
-        (and_from (nat_le heap.base a) (nat_lt a (heap.base + heap.count * heap.page))
-            (le-leb heap.base a (omega (arith, it.after)))
-            (lt-ltb a (heap.base + heap.count * heap.page) (omega (arith, up_to, it.before))))
-        (ap (owns owners b) frame ∙ it.owned)
+    (and_from (nat_le heap.base a) (nat_lt a (heap.base + heap.count * heap.page))
+    (le-leb heap.base a (omega (arith, it.after)))
+    (lt-ltb a (heap.base + heap.count * heap.page) (omega (arith, up_to, it.before))))
+    (ap (owns owners b) frame ∙ it.owned)
 
 -- an address of a page of the box is in its group
 page_in_own_group : (heap : HeapPart) (owners : List (Option BoxId)) (b a : ℕ) → IsGrouped heap → own_page heap owners b a ≡ true → (g : ℕ) × (g < heap.count / 8) × (in_own_group heap owners b g a ≡ true)
@@ -150,23 +151,25 @@ page_in_own_group heap owners b a it found =
     let place : a - low ≡ i * page + r = omega (arith, turned, after) in
     let within : i < 8 = omega arith in
     let top : i * page ≤ 7 * page = mul-le i page 7 page (omega arith) (omega arith) in
-    let number : (a - low) / page ≡ i = ap (λ x. x / page) place ∙ div-mul-add i page r small in
-    (g, omega (arith, it.groups, in_count),
-        and_from (nat_le low a && nat_lt a (low + 8 * page)) (nat_eq (owned_mask owners b (8 * g) 8 / 2 ^ ((a - low) / page) % 2) 1)
-            (and_from (nat_le low a) (nat_lt a (low + 8 * page))
-                (le-leb low a (omega (arith, turned, after)))
-                (lt-ltb a (low + 8 * page) (omega (arith, turned, after, top, small))))
-            (ap (λ n. nat_eq (owned_mask owners b (8 * g) 8 / 2 ^ n % 2) 1) number
-                ∙ owned_mask_bit owners b (8 * g) 8 i within ∙ ap (owns owners b) parts ∙ outer.1))
+    let number : (a - low) / page ≡ i = ap (λ x. x / page) place ∙ div-mul-add i page r small in (
+      g,
+      omega (arith, it.groups, in_count),
+      and_from (nat_le low a && nat_lt a (low + 8 * page)) (nat_eq (owned_mask owners b (8 * g) 8 / 2 ^ ((a - low) / page) % 2) 1)
+          (and_from (nat_le low a) (nat_lt a (low + 8 * page))
+          (le-leb low a (omega (arith, turned, after)))
+          (lt-ltb a (low + 8 * page) (omega (arith, turned, after, top, small))))
+          (ap (λ n. nat_eq (owned_mask owners b (8 * g) 8 / 2 ^ n % 2) 1) number
+          ∙ owned_mask_bit owners b (8 * g) 8 i within ∙ ap (owns owners b) parts ∙ outer.1),
+    )
 
 -- ---- all groups
 
 no_group : (base page a : ℕ) → in_group base page 0 a ≡ false
 no_group base page a = rw (zero-div (2 ^ ((a - base) / page))) (last (nat_le base a && nat_lt a (base + 8 * page)))
- where
-  last : (b : Bool) → (b && false) ≡ false
-  last true = refl
-  last false = refl
+  where
+    last : (b : Bool) → (b && false) ≡ false
+    last true = refl
+    last false = refl
 
 OfPages-group : (heap : HeapPart) (owners : List (Option BoxId)) (b g : ℕ) → IsGrouped heap → g < heap.count / 8 → OfPages heap owners b (group_pair (heap.base + 8 * g * heap.page) heap.page (owned_mask owners b (8 * g) 8))
 OfPages-group heap owners b g it below =
@@ -175,34 +178,37 @@ OfPages-group heap owners b g it below =
     let small : mask < 256 = owned_mask_below owners b (8 * g) 8 in
     let steps : low ≡ heap.base + g * (8 * heap.page) = omega arith in
     record {
-        valid = is_region-group low heap.page mask it.page_is small (ap (λ x. x % (8 * heap.page)) steps ∙ add-mul-mod_self_right heap.base g (8 * heap.page) ∙ it.whole);
-        given = pair_gives-group low heap.page mask it.page_is small;
-        inside = λ a found. in_own_group-page heap owners b g a it.page_is below (sym (matches-group low heap.page mask a it.page_is small) ∙ found);
+      valid = is_region-group low heap.page mask it.page_is small (ap (λ x. x % (8 * heap.page)) steps ∙ add-mul-mod_self_right heap.base g (8 * heap.page) ∙ it.whole);
+      given = pair_gives-group low heap.page mask it.page_is small;
+      inside = λ a found. in_own_group-page heap owners b g a it.page_is below (sym (matches-group low heap.page mask a it.page_is small) ∙ found);
     }
 
 each-page_group : (heap : HeapPart) (owners : List (Option BoxId)) (b g : ℕ) → IsGrouped heap → g < heap.count / 8 → AllByRecursion (OfPages heap owners b) (page_group heap owners b g)
 each-page_group heap owners b g it below = either (nat_eq (owned_mask owners b (8 * g) 8) 0)
- where
-  either : (t : Bool) → AllByRecursion (OfPages heap owners b) (if t then [] else (group_pair (heap.base + 8 * g * heap.page) heap.page (owned_mask owners b (8 * g) 8) ∷ []))
-  either true = tt
-  either false = (OfPages-group heap owners b g it below, tt)
+  where
+    either : (t : Bool) → AllByRecursion (OfPages heap owners b) (if t then [] else (group_pair (heap.base + 8 * g * heap.page) heap.page (owned_mask owners b (8 * g) 8) ∷ []))
+    either true = tt
+    either false = (OfPages-group heap owners b g it below, tt)
 
 list_any-page_group : (heap : HeapPart) (owners : List (Option BoxId)) (b g a : ℕ) → IsGrouped heap → list_any (λ p. matches p a) (page_group heap owners b g) ≡ in_own_group heap owners b g a
 list_any-page_group heap owners b g a it = either (nat_eq (owned_mask owners b (8 * g) 8) 0) refl
- where
-  low : ℕ
-  low = heap.base + 8 * g * heap.page
-  small : owned_mask owners b (8 * g) 8 < 256
-  small = owned_mask_below owners b (8 * g) 8
-  plain : (x : Bool) → (x || false) ≡ x
-  plain true = refl
-  plain false = refl
-  either : (t : Bool) → nat_eq (owned_mask owners b (8 * g) 8) 0 ≡ t → list_any (λ p. matches p a) (if t then [] else (group_pair (heap.base + 8 * g * heap.page) heap.page (owned_mask owners b (8 * g) 8) ∷ [])) ≡ in_own_group heap owners b g a
-  either true is =
-      sym (ap (λ m. in_group (heap.base + 8 * g * heap.page) heap.page m a) (eqb-true (owned_mask owners b (8 * g) 8) 0 is) ∙ no_group (heap.base + 8 * g * heap.page) heap.page a)
-  either false is =
-      plain (matches (group_pair (heap.base + 8 * g * heap.page) heap.page (owned_mask owners b (8 * g) 8)) a)
-      ∙ matches-group (heap.base + 8 * g * heap.page) heap.page (owned_mask owners b (8 * g) 8) a it.page_is (owned_mask_below owners b (8 * g) 8)
+  where
+    low : ℕ
+    low = heap.base + 8 * g * heap.page
+
+    small : owned_mask owners b (8 * g) 8 < 256
+    small = owned_mask_below owners b (8 * g) 8
+
+    plain : (x : Bool) → (x || false) ≡ x
+    plain true = refl
+    plain false = refl
+
+    either : (t : Bool) → nat_eq (owned_mask owners b (8 * g) 8) 0 ≡ t → list_any (λ p. matches p a) (if t then [] else (group_pair (heap.base + 8 * g * heap.page) heap.page (owned_mask owners b (8 * g) 8) ∷ [])) ≡ in_own_group heap owners b g a
+    either true is =
+        sym (ap (λ m. in_group (heap.base + 8 * g * heap.page) heap.page m a) (eqb-true (owned_mask owners b (8 * g) 8) 0 is) ∙ no_group (heap.base + 8 * g * heap.page) heap.page a)
+    either false is =
+        plain (matches (group_pair (heap.base + 8 * g * heap.page) heap.page (owned_mask owners b (8 * g) 8)) a)
+        ∙ matches-group (heap.base + 8 * g * heap.page) heap.page (owned_mask owners b (8 * g) 8) a it.page_is (owned_mask_below owners b (8 * g) 8)
 
 each-range : (P : ℕ → Type 0) (a n : ℕ) → ((k : ℕ) → a ≤ k → k < a + n → P k) → AllByRecursion P (range_with_len a n)
 each-range P a zero at = tt
@@ -227,13 +233,13 @@ module _ {X Y : Type 0} (p : Y → Bool) (f : X → List Y) where
 pub each-page_pairs : (heap : HeapPart) (owners : List (Option BoxId)) (b : ℕ) → IsGrouped heap → AllByRecursion (OfPages heap owners b) (page_pairs (Some heap) owners b)
 each-page_pairs heap owners b it =
     each-flat_map (page_group heap owners b) (λ g. g < heap.count / 8) (OfPages heap owners b)
-        (λ g below. each-page_group heap owners b g it below) (range_with_len 0 (heap.count / 8))
-        (each-range (λ g. g < heap.count / 8) 0 (heap.count / 8) (λ k low high. omega arith))
+    (λ g below. each-page_group heap owners b g it below) (range_with_len 0 (heap.count / 8))
+    (each-range (λ g. g < heap.count / 8) 0 (heap.count / 8) (λ k low high. omega arith))
 
 -- and together they have every address of them
 pub list_any-page_pairs : (heap : HeapPart) (owners : List (Option BoxId)) (b a : ℕ) → IsGrouped heap → own_page heap owners b a ≡ true → list_any (λ p. matches p a) (page_pairs (Some heap) owners b) ≡ true
 list_any-page_pairs heap owners b a it found =
     let place = page_in_own_group heap owners b a it found in
     list_any-flat_map_at (λ p. matches p a) (page_group heap owners b) (range_with_len 0 (heap.count / 8)) place.0 place.0
-        (slice_get-range 0 (heap.count / 8) place.0 place.1 ∙ ap Some (omega arith))
-        (list_any-page_group heap owners b place.0 a it ∙ place.2)
+    (slice_get-range 0 (heap.count / 8) place.0 place.1 ∙ ap Some (omega arith))
+    (list_any-page_group heap owners b place.0 a it ∙ place.2)

@@ -1,5 +1,5 @@
 -- Sets of addresses that are apart from one another, each with the kinds that it gives.
-use Rattle.std.proofs.Common.{◌≡◌, ◌≢◌, ℕ, zero, suc, ◌+◌, ◌<◌, ◌≤◌, Bool, true, false, List, [], ◌∷◌, Some, refl, sym, ◌∙◌, ap, inl, inr, ◌⊎◌}
+use Rattle.std.proofs.Common.{◌≡◌, ℕ, zero, suc, Bool, true, false, List, [], ◌∷◌, Some, refl, sym, ◌∙◌, ap, inl, inr}
 use Rattle.std.specs.Prelude.{◌&&◌, ◌||◌}
 use Rattle.std.specs.List.{AllByRecursion, list_any, slice_get}
 use Rattle.std.proofs.lemmas.Bool.{cases_Bool, false≢true, and_parts}
@@ -32,12 +32,12 @@ held_by-at (y ∷ ys) a kind zero x apart found here =
     let same : y ≡ x = cc in
     let in_y : y.has a ≡ true = ap (λ z. z.has a) same ∙ here in
     rw (in_y, none_held ys a kind (apart.0 a in_y)) (alone (y.gives kind) ∙ ap (λ z. z.gives kind) same)
- where
-  alone : (b : Bool) → (b || false) ≡ b
-  alone true = refl
-  alone false = refl
+  where
+    alone : (b : Bool) → (b || false) ≡ b
+    alone true = refl
+    alone false = refl
 held_by-at (y ∷ ys) a kind (suc i) x apart found here = elim (cases_Bool (y.has a)) [
-    inl in_y ↦ absurd (false≢true (sym (each-get (λ z. z.has a ≡ false) ys i x (apart.0 a in_y) found) ∙ here))
+  | inl in_y ↦ absurd (false≢true (sym (each-get (λ z. z.has a ≡ false) ys i x (apart.0 a in_y) found) ∙ here))
   | inr off ↦ rw off (held_by-at ys a kind i x apart.1 found here)
 ]
 

@@ -1,6 +1,6 @@
 -- What a sound configuration says of one box on its board: which ranges are blocks, and which are apart.
-use Rattle.std.proofs.Common.{◌≡◌, ◌≢◌, ℕ, zero, suc, ◌+◌, ◌-◌, ◌*◌, ◌/◌, ◌%◌, ◌^◌, ◌<◌, ◌≤◌, Bool, true, false, List, [], ◌∷◌, length, Option, Some, None, refl, sym, ◌∙◌, ap, subst, arith, inl, inr, ◌⊎◌}
-use Rattle.std.specs.Prelude.{◌&&◌, nat_le, nat_lt, IfSome}
+use Rattle.std.proofs.Common.{◌≡◌, ℕ, zero, suc, ◌+◌, ◌*◌, ◌%◌, ◌^◌, ◌<◌, ◌≤◌, Bool, true, false, List, [], ◌∷◌, Option, Some, None, refl, sym, ◌∙◌, ap, subst, arith, inl, inr, ◌⊎◌}
+use Rattle.std.specs.Prelude.{nat_le, nat_lt, IfSome}
 use Rattle.std.specs.Int.{IsPowerOfTwo}
 use Rattle.std.specs.List.{AllByRecursion, slice_get}
 use Rattle.std.proofs.lemmas.Bool.{and_parts, and_from, false_from_ne_true, false≢true, leb-true, ltb-true, le-leb, lt-ltb}
@@ -14,7 +14,7 @@ use Rattle.flat_model.specs.declared.parts.BoxPart.{BoxPart}
 use Rattle.flat_model.specs.declared.parts.Config.{Config}
 use Rattle.flat_model.specs.declared.parts.Item.{Item}
 use Rattle.flat_model.specs.Items.{items_of}
-use Rattle.flat_model.specs.Placing.{ArePlaced, IsOwnAfter, common_range, limit_of, placed_end}
+use Rattle.flat_model.specs.Placing.{ArePlaced, common_range, limit_of, placed_end}
 use Rattle.flat_model.specs.Sound as sound
 use Rattle.flat_model.proofs.Covers.{IsOneBlock, IsTiled}
 use Rattle.flat_model.proofs.Elements.{each-get, each_weaker}
@@ -73,11 +73,11 @@ IsOneBlock-from : (range : Range) → IsPowerOfTwo range.len → 32 ≤ range.le
 IsOneBlock-from range power enough limit whole =
     let low : 4 < power.0 = smaller 4 power.0 (omega (arith, power.1)) in
     record {
-        exponent = power.0;
-        enough = omega (arith, low);
-        limit = smaller power.0 32 (omega (arith, power.1));
-        is_power = power.1;
-        whole = subst (λ n. range.base % n ≡ 0) power.1 whole;
+      exponent = power.0;
+      enough = omega (arith, low);
+      limit = smaller power.0 32 (omega (arith, power.1));
+      is_power = power.1;
+      whole = subst (λ n. range.base % n ≡ 0) power.1 whole;
     }
 
 IsPage-from : (page : ℕ) → IsPowerOfTwo page → 32 ≤ page → page ≤ 65536 → IsPage page
@@ -107,7 +107,7 @@ IsOwnIn-placed start (first ∷ parts) zero part placed found =
     let same : first ≡ part = cc in
     let rest = start_le-placed_end (end_of first.own) parts placed.1 in
     subst (λ p. IsOwnIn start (placed_end (end_of first.own) parts) p.own) same
-        (record { power = placed.0.power; enough = placed.0.enough; aligned = placed.0.aligned; below = placed.0.not_below; above = rest })
+    (record { power = placed.0.power; enough = placed.0.enough; aligned = placed.0.aligned; below = placed.0.not_below; above = rest })
 IsOwnIn-placed start (first ∷ parts) (suc b) part placed found =
     let it = IsOwnIn-placed (end_of first.own) parts b part placed.1 found in
     record { power = it.power; enough = it.enough; aligned = it.aligned; below = omega (arith, it.below, placed.0.not_below); above = it.above }
@@ -120,8 +120,8 @@ record IsLimit (board : Board) (heap : Option HeapPart) : Type 0 where
 limit_from : (board : Board) (heap : Option HeapPart) → board.heap ≡ heap → IfSome heap (sound.IsHeap board.sram) → IsLimit board heap
 limit_from board None is it = record { ends = rw is (omega arith); heap_low = tt }
 limit_from board (Some h) is it = record {
-    ends = rw is (omega (arith, it.high));
-    heap_low = rw is refl;
+  ends = rw is (omega (arith, it.high));
+  heap_low = rw is refl;
 }
 
 reads_of : (rights : Rights) → sound.IsGrantRights rights → may_read rights ≡ true
@@ -165,25 +165,25 @@ module _ (cfg : Config) (sound_cfg : sound.IsSound cfg) (b : ℕ) (part : BoxPar
 
   heap_in_sram : (a : ℕ) → in_heap_range cfg.board.heap a ≡ true → (in_range cfg.board.sram a ≡ true) × (limit_of cfg.board ≤ a)
   heap_in_sram a is = from_heap cfg.board.heap sound_cfg.board.heap limit.heap_low is
-   where
-    from_heap : (heap : Option HeapPart) → IfSome heap (sound.IsHeap cfg.board.sram) → IfSome heap (λ h. limit_of cfg.board ≡ h.base) → in_heap_range heap a ≡ true → (in_range cfg.board.sram a ≡ true) × (limit_of cfg.board ≤ a)
-    from_heap None it low is = absurd (false≢true is)
-    from_heap (Some h) it low is =
-        let parts = and_parts (nat_le h.base a) (nat_lt a (h.base + h.count * h.page)) is in
-        let after : h.base ≤ a = leb-true h.base a parts.0 in
-        let before : a < h.base + h.count * h.page = ltb-true a (h.base + h.count * h.page) parts.1 in
-        (in_range-from cfg.board.sram a (omega (arith, it.low)) (omega (arith, it.high)), omega (arith, low))
+    where
+      from_heap : (heap : Option HeapPart) → IfSome heap (sound.IsHeap cfg.board.sram) → IfSome heap (λ h. limit_of cfg.board ≡ h.base) → in_heap_range heap a ≡ true → (in_range cfg.board.sram a ≡ true) × (limit_of cfg.board ≤ a)
+      from_heap None it low is = absurd (false≢true is)
+      from_heap (Some h) it low is =
+          let parts = and_parts (nat_le h.base a) (nat_lt a (h.base + h.count * h.page)) is in
+          let after : h.base ≤ a = leb-true h.base a parts.0 in
+          let before : a < h.base + h.count * h.page = ltb-true a (h.base + h.count * h.page) parts.1 in
+          (in_range-from cfg.board.sram a (omega (arith, it.low)) (omega (arith, it.high)), omega (arith, low))
 
   -- where a grant lies
   grant_place : (g : Item) (a : ℕ) → sound.IsGrant cfg.board (common_range cfg.board cfg.boxes) g → in_range g.range a ≡ true → (in_range cfg.board.peripherals a ≡ true) ⊎ (in_range (common_range cfg.board cfg.boxes) a ≡ true)
   grant_place g a it is = elim it.placed [
-      inl inside ↦ inl (in_outer g.range cfg.board.peripherals a inside.0 inside.1 is)
+    | inl inside ↦ inl (in_outer g.range cfg.board.peripherals a inside.0 inside.1 is)
     | inr inside ↦ inr (in_outer g.range (common_range cfg.board cfg.boxes) a inside.0 inside.1 is)
   ]
 
   grant_end : (g : Item) → sound.IsGrant cfg.board (common_range cfg.board cfg.boxes) g → end_of g.range < 2 ^ 32
   grant_end g it = elim it.placed [
-      inl inside ↦ omega (arith, inside.1, sound_cfg.board.peripherals_bank.ends)
+    | inl inside ↦ omega (arith, inside.1, sound_cfg.board.peripherals_bank.ends)
     | inr inside ↦ omega (arith, inside.1, common_end, limit.ends, sound_cfg.board.sram_bank.ends)
   ]
 
@@ -191,8 +191,8 @@ module _ (cfg : Config) (sound_cfg : sound.IsSound cfg) (b : ℕ) (part : BoxPar
   no_grant : (a : ℕ) → (in_range cfg.board.peripherals a ≡ true → ⊥) → (in_range (common_range cfg.board cfg.boxes) a ≡ true → ⊥) → AllByRecursion (λ g. in_range g.range a ≡ false) part.grants
   no_grant a outside beside =
       each_weaker (sound.IsGrant cfg.board (common_range cfg.board cfg.boxes)) (λ g. in_range g.range a ≡ false)
-          (λ g it. false_from_ne_true (in_range g.range a) (λ is. elim (grant_place g a it is) [ inl p ↦ outside p | inr c ↦ beside c ]))
-          part.grants box_of.grants
+      (λ g it. false_from_ne_true (in_range g.range a) (λ is. elim (grant_place g a it is) [ inl p ↦ outside p | inr c ↦ beside c ]))
+      part.grants box_of.grants
 
   sram_not_flash : (a : ℕ) → in_range cfg.board.flash a ≡ true → in_range cfg.board.sram a ≡ true → ⊥
   sram_not_flash a flash sram = false≢true (sym (sound_cfg.board.sram_apart a sram) ∙ flash)
@@ -203,38 +203,39 @@ module _ (cfg : Config) (sound_cfg : sound.IsSound cfg) (b : ℕ) (part : BoxPar
   -- the box is placed as the mathematics of the unit wants it
   pub IsPlaced-from_sound : IsPlaced cfg.board part
   IsPlaced-from_sound = record {
-      flash = IsOneBlock-from cfg.board.flash sound_cfg.board.flash.power sound_cfg.board.flash.enough (omega (arith, sound_cfg.board.flash_bank.within)) sound_cfg.board.flash.aligned;
-      own = IsOneBlock-from part.own own_of.power (omega (arith, own_of.enough)) (omega (arith, own_of.above, sound_cfg.room, limit.ends, sound_cfg.board.sram_bank.ends)) own_of.aligned;
-      secret = secret_from cfg.board.secret sound_cfg.board.secret;
-      heap = heap_from cfg.board.heap sound_cfg.board.heap;
-      grants = each_weaker (sound.IsGrant cfg.board (common_range cfg.board cfg.boxes)) IsTiledGrant
-          (λ g it. record { tiled = IsTiled-from g.range it.tiled (grant_end g it); reads = reads_of g.rights it.rights }) part.grants box_of.grants;
-      items = box_of.items;
-      flash_own = λ a is. false_from_ne_true (in_range part.own a) (λ own. sram_not_flash a is (own_in_sram a own));
-      flash_heap = λ a is. false_from_ne_true (in_heap_range cfg.board.heap a) (λ heap. sram_not_flash a is (heap_in_sram a heap).0);
-      flash_grants = λ a is. no_grant a (λ p. false≢true (sym (sound_cfg.board.peripherals_apart a p) ∙ is)) (λ c. sram_not_flash a is (common_in_sram a c));
-      own_heap = λ a is. false_from_ne_true (in_heap_range cfg.board.heap a) (λ heap.
-          let last = (bounds_of part.own a is).1 in
-          let first = (heap_in_sram a heap).1 in
-          absurd (omega (arith, own_of.above, sound_cfg.room)));
-      own_grants = λ a is. no_grant a (peripherals_not_sram a (own_in_sram a is)) (λ c.
-          let last = (bounds_of part.own a is).1 in
-          let first = (bounds_of (common_range cfg.board cfg.boxes) a c).0 in
-          absurd (omega (arith, own_of.above)));
-      heap_grants = λ a is. no_grant a (peripherals_not_sram a (heap_in_sram a is).0) (λ c.
-          let last = (bounds_of (common_range cfg.board cfg.boxes) a c).1 in
-          let first = (heap_in_sram a is).1 in
-          absurd (omega (arith, common_end)));
-      grants_apart = box_of.grants_apart;
+    flash = IsOneBlock-from cfg.board.flash sound_cfg.board.flash.power sound_cfg.board.flash.enough (omega (arith, sound_cfg.board.flash_bank.within)) sound_cfg.board.flash.aligned;
+    own = IsOneBlock-from part.own own_of.power (omega (arith, own_of.enough)) (omega (arith, own_of.above, sound_cfg.room, limit.ends, sound_cfg.board.sram_bank.ends)) own_of.aligned;
+    secret = secret_from cfg.board.secret sound_cfg.board.secret;
+    heap = heap_from cfg.board.heap sound_cfg.board.heap;
+    grants = each_weaker (sound.IsGrant cfg.board (common_range cfg.board cfg.boxes)) IsTiledGrant
+        (λ g it. record { tiled = IsTiled-from g.range it.tiled (grant_end g it); reads = reads_of g.rights it.rights }) part.grants box_of.grants;
+    items = box_of.items;
+    flash_own = λ a is. false_from_ne_true (in_range part.own a) (λ own. sram_not_flash a is (own_in_sram a own));
+    flash_heap = λ a is. false_from_ne_true (in_heap_range cfg.board.heap a) (λ heap. sram_not_flash a is (heap_in_sram a heap).0);
+    flash_grants = λ a is. no_grant a (λ p. false≢true (sym (sound_cfg.board.peripherals_apart a p) ∙ is)) (λ c. sram_not_flash a is (common_in_sram a c));
+    own_heap = λ a is. false_from_ne_true (in_heap_range cfg.board.heap a) (λ heap.
+        let last = (bounds_of part.own a is).1 in
+        let first = (heap_in_sram a heap).1 in
+        absurd (omega (arith, own_of.above, sound_cfg.room)));
+    own_grants = λ a is. no_grant a (peripherals_not_sram a (own_in_sram a is)) (λ c.
+        let last = (bounds_of part.own a is).1 in
+        let first = (bounds_of (common_range cfg.board cfg.boxes) a c).0 in
+        absurd (omega (arith, own_of.above)));
+    heap_grants = λ a is. no_grant a (peripherals_not_sram a (heap_in_sram a is).0) (λ c.
+        let last = (bounds_of (common_range cfg.board cfg.boxes) a c).1 in
+        let first = (heap_in_sram a is).1 in
+        absurd (omega (arith, common_end)));
+    grants_apart = box_of.grants_apart;
   }
-   where
-    secret_from : (secret : Option Range) → IfSome secret (λ s. sound.IsPowerRange s × sound.IsInside s cfg.board.flash) → IfSome secret (IsSecretOf cfg.board.flash)
-    secret_from None it = tt
-    secret_from (Some s) it = record {
+    where
+      secret_from : (secret : Option Range) → IfSome secret (λ s. sound.IsPowerRange s × sound.IsInside s cfg.board.flash) → IfSome secret (IsSecretOf cfg.board.flash)
+      secret_from None it = tt
+      secret_from (Some s) it = record {
         block = IsOneBlock-from s it.0.power it.0.enough (omega (arith, it.1.0, it.1.1, sound_cfg.board.flash_bank.within)) it.0.aligned;
         low = it.1.0;
         high = it.1.1;
-    }
-    heap_from : (heap : Option HeapPart) → IfSome heap (sound.IsHeap cfg.board.sram) → IfSome heap IsGrouped
-    heap_from None it = tt
-    heap_from (Some h) it = IsGrouped-from cfg.board.sram h it
+      }
+
+      heap_from : (heap : Option HeapPart) → IfSome heap (sound.IsHeap cfg.board.sram) → IfSome heap IsGrouped
+      heap_from None it = tt
+      heap_from (Some h) it = IsGrouped-from cfg.board.sram h it
