@@ -1,5 +1,5 @@
 -- What a row of the step gives: what the threads share, the thread, and the reply.
-use Rattle.std.specs.Prelude.{ℕ}
+use Rattle.std.specs.Prelude.{ℕ, Option, Some, None}
 use Rattle.addr_base.specs.declared.identity.BoxId.{BoxId}
 use Rattle.addr_base.specs.declared.identity.ThreadId.{ThreadId}
 use Rattle.std.specs.Prelude.{Bool}

@@ -1,5 +1,5 @@
 -- A run of the flat machine: the replies to a list of choices, and the last state.
-use Rattle.std.specs.Prelude.{ℕ, None, false, List, [], ◌∷◌, map, replicate}
+use Rattle.std.specs.Prelude.{ℕ, Option, None, false, List, [], ◌∷◌, map, length, replicate}
 use Rattle.std.specs.Option.{option_map_or}
 use Rattle.flat_model.specs.declared.events.Choice.{Choice}
 use Rattle.flat_model.specs.declared.events.Reply.{Reply}
@@ -18,19 +18,19 @@ LINES = 64
 -- the state at the start: the board's words, zero elsewhere, no page with an owner, no call, no line latched or enabled
 unfoldable pub opening_state : Config → Flat
 opening_state cfg = record {
-  shared = record {
-    memory = opening_memory cfg.board;
-    owners = replicate (option_map_or (λ heap. heap.count) cfg.board.heap 0) None;
-    calls = [];
-    serving = map (λ _. None) cfg.boxes;
-    lines = record {
-      latched = replicate LINES false;
-      enabled = replicate LINES false;
-      saved = map (λ _. None) cfg.boxes;
+    shared = record {
+      memory = opening_memory cfg.board;
+      owners = replicate (option_map_or (λ heap. heap.count) cfg.board.heap 0) None;
+      calls = [];
+      serving = map (λ _. None) cfg.boxes;
+      lines = record {
+        latched = replicate LINES false;
+        enabled = replicate LINES false;
+        saved = map (λ _. None) cfg.boxes;
+      };
     };
-  };
-  threads = map (λ _. opening_thread) cfg.threads;
-}
+    threads = map (λ _. opening_thread) cfg.threads;
+  }
 
 -- the state after choices, from a state on
 abbrev pub state_after_all : Config → Flat → List Choice → Flat

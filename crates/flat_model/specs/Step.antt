@@ -1,5 +1,5 @@
 -- One step of the flat machine: the state after a choice, and its reply.
-use Rattle.std.specs.Prelude.{ℕ, Bool, true, false, ◌&&◌, not, nat_eq, Option, Some, None, if◌then◌else◌, slice_get, slice_set}
+use Rattle.std.specs.Prelude.{ℕ, Bool, true, false, ◌&&◌, not, nat_eq, is_none, Option, Some, None, List, [], ◌∷◌, if◌then◌else◌, slice_get, slice_set}
 use Rattle.std.specs.Option.{option_map_or}
 use Rattle.addr_base.specs.declared.identity.BoxId.{BoxId}
 use Rattle.addr_base.specs.declared.identity.ThreadId.{ThreadId}
@@ -21,7 +21,7 @@ use Rattle.flat_model.specs.declared.states.Shared.{Shared}
 use Rattle.flat_model.specs.declared.states.ThreadState.{ThreadState}
 use Rattle.flat_model.specs.AccessRows.{access_of, aligned_access}
 use Rattle.flat_model.specs.Calls.{oldest_posted_by, with_started}
-use Rattle.flat_model.specs.Outcome.{Outcome, refused_row}
+use Rattle.flat_model.specs.Outcome.{Outcome, Who, by_itself, refused_row}
 use Rattle.flat_model.specs.Thread.{begun, counted}
 use Rattle.flat_model.specs.Turn.{turn_row, within_budget}
 use Rattle.flat_model.specs.Want.{fits, next_instruction}
@@ -111,9 +111,9 @@ instruction_in f t thread th (Some part) = next_instruction part thread f.shared
 abbrev pub touch_at : Config → Flat → ℕ → Option ThreadPart → Option ThreadState → Option Access
 touch_at cfg f t (Some thread) (Some th) = touch_by th (instruction_in f t thread th (slice_get cfg.boxes thread.home.0))
   where
-    touch_by : ThreadState → Option Instr → Option Access
-    touch_by th None = None
-    touch_by th (Some i) = aligned_access (access_of th i)
+  touch_by : ThreadState → Option Instr → Option Access
+  touch_by th None = None
+  touch_by th (Some i) = aligned_access (access_of th i)
 touch_at cfg f t _ _ = None
 
 -- the aligned access that a choice decides for a load, a store or a fetch, if it decides one

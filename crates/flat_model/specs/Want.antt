@@ -1,6 +1,8 @@
 -- What a thread's next event is, and which choices fit.
-use Rattle.std.specs.Prelude.{ℕ, ◌+◌, Bool, true, false, ◌&&◌, not, nat_eq, nat_le, nat_lt, is_none, Option, Some, None, List, [], ◌∷◌, length, if◌then◌else◌, slice_get}
+use Rattle.std.specs.Prelude.{ℕ, ◌+◌, Bool, true, false, ◌&&◌, ◌||◌, not, nat_eq, nat_le, nat_lt, is_none, is_some, Option, Some, None, List, [], ◌∷◌, length, count_by, if◌then◌else◌, slice_get}
 use Rattle.std.specs.List.{list_any}
+use Rattle.std.specs.Option.{option_map_or, option_and_then}
+use Rattle.addr_base.specs.declared.identity.BoxId.{BoxId}
 use Rattle.addr_base.specs.declared.identity.ThreadId.{ThreadId}
 use Rattle.flat_model.specs.declared.events.Choice.{Choice}
 use Rattle.flat_model.specs.declared.events.Choice.TheVariants as choice
@@ -53,8 +55,8 @@ abbrev pub want_of_instruction : Config → BoxPart → ThreadPart → Shared �
 want_of_instruction cfg part thread m t None = want.Plain
 want_of_instruction cfg part thread m t (Some i) =
     want_for cfg thread
-    (takes_a_call i && nat_eq t part.server.0 && is_none (served_ticket m thread.home.0))
-    (called_gateway i)
+      (takes_a_call i && nat_eq t part.server.0 && is_none (served_ticket m thread.home.0))
+      (called_gateway i)
 
 -- what a thread of a box wants
 abbrev pub want_in : Config → Shared → ℕ → ThreadPart → ThreadState → Option BoxPart → Want
