@@ -2,7 +2,15 @@ pub mod Blocks
 pub mod Covers
 pub mod Elements
 pub mod Fields
+pub mod Flushing
+pub mod Granted
 pub mod Greatness
+pub mod HeldBytes
 pub mod PageGroups
+pub mod PagePairs
+pub mod Pieces
+pub mod Placed
 pub mod Powers
+pub mod Recovery
+pub mod Suited
 pub mod Turning
