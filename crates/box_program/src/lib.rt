@@ -1,0 +1,6 @@
+//! Program text: from lines of text to instructions, and back.
+#![tactic(auto)]
+
+mod numbers;
+mod opcodes;
+mod words;
