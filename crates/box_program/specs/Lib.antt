@@ -1,3 +1,5 @@
 pub mod Words
 pub mod Numbers
 pub mod Opcodes
+pub mod Program
+pub mod Steps

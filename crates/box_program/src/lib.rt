@@ -3,4 +3,5 @@
 
 mod numbers;
 mod opcodes;
+mod program;
 mod words;
