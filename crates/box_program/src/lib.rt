@@ -4,4 +4,5 @@
 mod numbers;
 mod opcodes;
 mod program;
+mod spelling;
 mod words;

@@ -1,4 +1,4 @@
-ghost use Rattle.std.specs.Prelude.{◌≡◌, find};
+ghost use Rattle.std.specs.Prelude.{◌≡◌, ◌≤◌, length, find};
 ghost use Rattle.flat_model.specs.Operands.{IsValidInstr};
 ghost use Rattle.box_program.specs.Opcodes.{row, is_named, opcode_of, parts_of};
 
@@ -99,6 +99,7 @@ impl Opcode {
     #[tactic(auto, unfolding(crate::specs::Opcodes::row))]
     fn row(self) -> (&'static str, &'static [Operand])
         ensures word { result.0.now ≡ (row self).word }
+        ensures short { length result.0.now ≤ 11 }
         ensures operands { result.1.now ≡ (row self).operands }
     {
         match self {
@@ -138,7 +139,8 @@ impl Opcode {
 
     /// The word of the instruction.
     pub fn word(self) -> &'static str
-        ensures { result.now ≡ (row self).word }
+        ensures word { result.now ≡ (row self).word }
+        ensures short { length result.now ≤ 11 }
     {
         self.row().0
     }

@@ -1,5 +1,5 @@
-ghost use Rattle.std.specs.Prelude.{◌≡◌, ◌≤◌, min, length, IfOk};
-ghost use Rattle.std.specs.Option.{option_map};
+ghost use Rattle.std.specs.Prelude.{◌≡◌, ◌≤◌, All, IfOk, vec_len};
+ghost use Rattle.flat_model.specs.Operands.{IsValidInstr};
 ghost use Rattle.box_program.specs.Words.{words};
 ghost use Rattle.box_program.specs.Numbers.{number};
 ghost use Rattle.box_program.specs.Opcodes.{row};
@@ -115,6 +115,8 @@ fn push_line(program: &mut Vec<Instr>, number: u32, line: &[u8]) -> Result<(), A
 /// The program of a text, or its first bad line and why that line is refused.
 pub fn assemble(alloc: Global, text: &str) -> Result<Vec<Instr>, AssembleErr>
     ensures exact { Assembles (program text.now) result }
+    ensures valid { IfOk result (λ v. All IsValidInstr v.items) }
+    ensures few { IfOk result (λ v. vec_len v ≤ 256) }
 {
     let mut program = Vec::new(alloc);
     let mut number: u32 = 0;

@@ -7,6 +7,7 @@ use Rattle.std.specs.Global.{Global}
 use Rattle.box_program.specs.Program.{program, instructions, statements}
 use Rattle.box_program.specs.Steps.{after}
 use Rattle.box_program.specs.Words.{is_line_feed, lines}
+use Rattle.box_program.proofs.ProgramLemmas.{program_few}
 use Rattle.box_program.proofs.StepLemmas.{line_read, not_added, all_read, none_read}
 use Rattle.box_program.proofs.program.assemble.Goals as goal
 
@@ -40,7 +41,7 @@ returns-in_err-push_line c =
       c.loop-line.yielded _ c.loop-line.yielded_by _ _ c.in-Some.line c.in-Some.is c.next.ensures.steps in
     let counted : c.saturating_add-number.result ≡ min (length c.loop-line.yielded + 1) 4294967295 = omega (arith, c.saturating_add-number.ensures, c.loop-line.invariant.counted) in
     let p = err_from_is_err_and c.from_residual.result c.from_residual.ensures.1 in
-    rw (p.1, p.2) (record { exact = not_added Global c.loop-line.program.items c.push_line.new.program.items (lines c.args.text.now) (length c.loop-line.yielded) _ c.in-Some.line.now _ _ turn.0 turn.1 c.loop-line.invariant.rest counted c.in_err-push_line.ensures })
+    rw (p.1, p.2) (record { exact = not_added Global c.loop-line.program.items c.push_line.new.program.items (lines c.args.text.now) (length c.loop-line.yielded) _ c.in-Some.line.now _ _ turn.0 turn.1 c.loop-line.invariant.rest counted c.in_err-push_line.ensures; valid = tt; few = tt })
 
 pub returns : goal.returns
 unfolding lines
@@ -51,4 +52,6 @@ returns c =
           c.split-line-items.ensures.closure (λ x b q k. search (rules, tests))))
       c.loop-line.yielded _ c.loop-line.yielded_by _ _ c.in-None.is c.next.ensures.steps in
     let none = drop_all (length c.loop-line.yielded) (lines c.args.text.now) (omega (arith, end.1)) in
-    record { exact = all_read c.loop-line.program.items _ _ _ c.loop-line.invariant.rest none }
+    let exact = all_read c.loop-line.program.items _ _ _ c.loop-line.invariant.rest none in
+    let few = program_few c.args.text.now c.loop-line.program.items exact in
+    record { exact = exact; valid = few.valid; few = omega (arith, few.few, c.loop-line.program.ok.0) }
