@@ -1,4 +1,5 @@
 pub mod Blocks
+pub mod Budgets
 pub mod Copies
 pub mod Covers
 pub mod Elements
@@ -7,6 +8,7 @@ pub mod Flushing
 pub mod Granted
 pub mod Greatness
 pub mod HeldBytes
+pub mod KeptSteps
 pub mod PageGroups
 pub mod PageLemmas
 pub mod PagePairs

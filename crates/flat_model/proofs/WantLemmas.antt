@@ -5,6 +5,7 @@ use Rattle.std.proofs.lemmas.Option.{slice_get_past}
 use Rattle.std.specs.Prelude.{is_none}
 use Rattle.std.proofs.Common.{◌≤◌, arith, ◌<◌}
 use Rattle.std.proofs.lemmas.Bool.Decides.{nat_tests}
+use Rattle.addr_base.specs.declared.identity.Line.{Line}
 use Rattle.addr_base.specs.declared.identity.ThreadId.{ThreadId}
 use Rattle.addr_base.specs.declared.identity.Ticket.{Ticket}
 use Rattle.flat_model.specs.declared.events.Choice.{Choice}
@@ -25,8 +26,8 @@ use Rattle.flat_model.specs.Interrupts.{due_interrupt}
 use Rattle.flat_model.specs.Thread.{is_ready}
 use Rattle.flat_model.specs.Today.{RunsToday, is_run_today, runs_today, thread_runs_today}
 use Rattle.flat_model.specs.Script.{choice_of_thread, choice_by_want}
-use Rattle.flat_model.specs.Step.{step, turn_at, fitting_step}
-use Rattle.flat_model.specs.Want.{fits, fits_with_room, fits_without_room, is_thread, wants_next, next_instruction, want_at, want_in, want_of, want_of_instruction}
+use Rattle.flat_model.specs.Step.{fitting_step, rung, step, turn_at}
+use Rattle.flat_model.specs.Want.{fits, is_owned_line, fits_with_room, fits_without_room, is_thread, wants_next, next_instruction, want_at, want_in, want_of, want_of_instruction}
 use Rattle.flat_model.proofs.TodayLemmas.{list_all-get, program_today}
 
 want-instruction : (cfg : Config) (part : BoxPart) (thread : ThreadPart) (m : Shared) (t : ℕ) (i : Option Instr) →
@@ -130,3 +131,15 @@ step-idle cfg f t today = rw (want-today cfg f t.0 today) (unfit (is_thread cfg 
   unfit : (b : Bool) → cond (b && false) (fitting_step cfg f (choice.Idle t)) (f, reply.Ended) ≡ (f, reply.Ended)
   unfit true = refl
   unfit false = refl
+
+-- the step of a ring of a line that a box owns
+pub step-ring : (cfg : Config) (f : Flat) (line : Line) (by : ℕ) → is_owned_line cfg line.0 ≡ true →
+    step cfg f (choice.Ring line by) ≡ (rung f line.0, reply.Done)
+unfolding step
+step-ring cfg f line by owned = rw owned refl
+
+-- a ring of another line does not fit
+pub step-unowned : (cfg : Config) (f : Flat) (line : Line) (by : ℕ) → is_owned_line cfg line.0 ≡ false →
+    step cfg f (choice.Ring line by) ≡ (f, reply.Ended)
+unfolding step
+step-unowned cfg f line by owned = rw owned refl

@@ -27,6 +27,7 @@ pub mod Script
 pub mod Sound
 pub mod Step
 pub mod Stepping
+pub mod StepsLeft
 pub mod Text
 pub mod Thread
 pub mod Trace

@@ -13,3 +13,13 @@ CanStep th = has_ended th ≡ false → th.steps + 1 < 2 ^ 32
 -- the same of every thread of a state
 abbrev pub AllCanStep : Flat → Type 0
 AllCanStep f = (t : ℕ) (th : ThreadState) → slice_get f.threads t ≡ Some th → CanStep th
+
+-- the thread has ended, or has taken fewer steps than its budget
+abbrev pub IsWithin : ThreadPart → ThreadState → Type 0
+IsWithin thread th = has_ended th ≡ false → th.steps < thread.steps
+
+-- the same of every thread of a state
+abbrev pub KeepsBudgets : Config → Flat → Type 0
+KeepsBudgets cfg f =
+    (t : ℕ) (thread : ThreadPart) (th : ThreadState) →
+    slice_get cfg.threads t ≡ Some thread → slice_get f.threads t ≡ Some th → IsWithin thread th

@@ -8,6 +8,7 @@ mod actors;
 mod banks;
 mod boards;
 mod events;
+mod flat_state;
 mod instructions;
 mod interrupts;
 mod lists;
@@ -19,6 +20,7 @@ mod refusals;
 mod states;
 mod step;
 mod texts;
+mod touch;
 mod turn;
 mod waiting;
 
@@ -33,13 +35,18 @@ pub use events::{
     Choice, Collected, Drive, Entry, Flaw, Frames, Logged, Mode, Noted, Reply, Started, UnitLine,
     Want,
 };
+pub use access_rows::access_of;
+pub use flat_state::{FlatState, flat_step};
 pub use instructions::{AssembleErr, BadLine, Instr, Why};
 pub use lists::{Items, Text};
 pub use logs::{End, Log, LogErr};
+pub use opening::opening_state;
 pub use parts::{
     BoxPart, Config, DevicePart, IrqPart, Item, Op, RegGate, RpcGate, ScriptWord, ThreadPart,
 };
 pub use refusals::{ConfigErr, Key, NotNext, PageErr, Refused, Spot};
 pub use states::{Awaited, Call, CallState, Context, Flat, Lines, Memory, Shared, ThreadState};
+pub use touch::touch_at;
 pub use turn::has_ended;
+pub use step::{is_owned_line, program_of, ring, thread_of, turn_at};
 pub use texts::{BoxText, GateTexts, GrantText, RegText, Round, RpcText, ThreadText};

@@ -41,8 +41,8 @@ fn turn_in(
     reply
 }
 
-// The thread with this number in the configuration.
-fn program_of(cfg: &Config, t: ThreadId) -> Option<&ThreadPart>
+/// The thread with this number in the configuration.
+pub fn program_of(cfg: &Config, t: ThreadId) -> Option<&ThreadPart>
     ensures { option_copied result ≡ slice_get cfg.now.threads t.0 }
 {
     cfg.threads.as_slice().get(t.0 as usize)

@@ -64,7 +64,7 @@ pub fn has_ended(thread: &ThreadState) -> bool
 }
 
 // The instruction at a place of the thread's program.
-fn instruction_at(program: &ThreadPart, place: u32) -> Option<Instr>
+pub(crate) fn instruction_at(program: &ThreadPart, place: u32) -> Option<Instr>
     ensures { result ≡ slice_get program.now.program place }
 {
     program.program.as_slice().get(place as usize).copied()
