@@ -6,3 +6,6 @@ mod opcodes;
 mod program;
 mod spelling;
 mod words;
+
+pub use program::assemble;
+pub use spelling::show;
