@@ -5,6 +5,8 @@ mod numbers;
 mod opcodes;
 mod program;
 mod spelling;
+#[cfg(test)]
+mod tests;
 mod words;
 
 pub use program::assemble;
