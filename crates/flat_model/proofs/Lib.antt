@@ -1,5 +1,6 @@
 pub mod Blocks
 pub mod Covers
+pub mod Deciding
 pub mod Elements
 pub mod Fields
 pub mod Flushing
