@@ -2,6 +2,10 @@
 #![tactic(auto)]
 
 mod region;
+#[cfg(test)]
+mod samples;
+#[cfg(test)]
+mod tests;
 mod unit;
 
 pub use region::{gives_kind, is_valid, matches_address};
