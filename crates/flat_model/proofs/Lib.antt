@@ -2,7 +2,9 @@ pub mod Blocks
 pub mod Budgets
 pub mod Copies
 pub mod Covers
+pub mod Deciding
 pub mod Elements
+pub mod Exponents
 pub mod Fields
 pub mod Flushing
 pub mod Granted
