@@ -39,7 +39,7 @@ want-instruction cfg part thread m t (Some (instr.RpcSync n looks)) today = cc
 want-instruction cfg part thread m t (Some instr.RpcTake) today = cc
 want-instruction cfg part thread m t (Some _) today = refl
 
-next-today : (part : BoxPart) (thread : ThreadPart) (m : Shared) (th : ThreadState) (t : ℕ) →
+pub next-today : (part : BoxPart) (thread : ThreadPart) (m : Shared) (th : ThreadState) (t : ℕ) →
     thread_runs_today thread ≡ true → runs_today (next_instruction part thread m th t) ≡ true
 next-today part thread m th t today =
     by_test (is_ready th.mode && is_none (due_interrupt m.lines part thread.home.0 t))

@@ -1,0 +1,138 @@
+-- What a turn is for the unit where nothing rotates in and no page is called for.
+use Rattle.std.proofs.Common.{◌≡◌, ℕ, zero, suc, ◌+◌, ◌≤◌, Bool, true, false, ◌&&◌, cond, Option, Some, None, List, [], ◌∷◌, ◌++◌, map, refl, sym, ap, ◌∙◌, subst, length, arith, append_assoc}
+use Rattle.std.specs.List.{AllByRecursion, slice_get}
+use Rattle.std.specs.Prelude.{is_none}
+use Rattle.std.proofs.lemmas.List.{map-append, length-map, length-append}
+use Rattle.addr_base.specs.declared.identity.BoxId.{BoxId}
+use Rattle.addr_base.specs.declared.identity.ThreadId.{ThreadId}
+use Rattle.addr_base.specs.declared.pairs.Pair.{Pair}
+use Rattle.flat_model.specs.declared.accesses.Access.{Access}
+use Rattle.flat_model.specs.declared.events.Choice.{Choice}
+use Rattle.flat_model.specs.declared.events.Choice.TheVariants as choice
+use Rattle.flat_model.specs.declared.events.Logged.{Logged}
+use Rattle.flat_model.specs.declared.events.Logged.TheVariants as item
+use Rattle.flat_model.specs.declared.events.UnitLine.{UnitLine}
+use Rattle.flat_model.specs.declared.instructions.Instr.{Instr}
+use Rattle.flat_model.specs.declared.instructions.Instr.TheVariants as instr
+use Rattle.flat_model.specs.declared.parts.BoxPart.{BoxPart}
+use Rattle.flat_model.specs.declared.parts.Config.{Config}
+use Rattle.flat_model.specs.declared.parts.ThreadPart.{ThreadPart}
+use Rattle.flat_model.specs.declared.states.Flat.{Flat}
+use Rattle.flat_model.specs.declared.states.ThreadState.{ThreadState}
+use Rattle.flat_model.specs.Decision.{decision, is_granted}
+use Rattle.flat_model.specs.Interrupts.{due_interrupt}
+use Rattle.flat_model.specs.Plan.{plan_of}
+use Rattle.flat_model.specs.Step.{empties_slots, instruction_in, is_page_call, is_status, pages_at, reply_to, touch_at, touch_of}
+use Rattle.flat_model.specs.Thread.{has_ended, is_ready}
+use Rattle.flat_model.specs.Today.{RunsToday, is_run_today, runs_today, thread_runs_today}
+use Rattle.flat_model.specs.Trace.{World, event_items, world_after}
+use Rattle.flat_model.specs.UnitRun.{UnitState, access_lines, acting_box, lines_of_box, lines_of_event, part_at, rotating_pair, switch_lines, unit_after, unit_after_box, unit_after_event, unit_lines}
+use Rattle.flat_model.specs.Want.{next_instruction}
+use Rattle.flat_model.proofs.Elements.{each-get}
+use Rattle.flat_model.proofs.TodayLemmas.{list_all-get}
+use Rattle.flat_model.proofs.WantLemmas.{next-today}
+use Rattle.machine_core.specs.Kept.{HasNoPlan}
+
+-- nothing rotates in
+pub plan-none : (cfg : Config) (owners : List (Option BoxId)) (b : ℕ) (part : BoxPart) → HasNoPlan cfg →
+    slice_get cfg.boxes b ≡ Some part → plan_of cfg owners b part ≡ []
+plan-none cfg owners b part none at =
+    let grants : part.grants ≡ [] = each-get (λ (p : BoxPart). p.grants ≡ []) cfg.boxes b part none.grants at in
+    rw (grants, none.heap) refl
+
+page_call-today : (i : Option Instr) → runs_today i ≡ true → is_page_call i ≡ false
+page_call-today None today = refl
+page_call-today (Some (instr.PagesAlloc n t)) today = cc
+page_call-today (Some (instr.PageFree a)) today = cc
+page_call-today (Some _) today = refl
+
+instruction-today : (cfg : Config) (f : Flat) (t : ℕ) (thread : ThreadPart) (th : ThreadState) (part : Option BoxPart) →
+    thread_runs_today thread ≡ true → runs_today (instruction_in f t thread th part) ≡ true
+instruction-today cfg f t thread th None today = refl
+instruction-today cfg f t thread th (Some part) today = next-today part thread f.shared th t today
+
+pages-today : (cfg : Config) (f : Flat) (t : ℕ) (thread : Option ThreadPart) (th : Option ThreadState) →
+    ((x : ThreadPart) → thread ≡ Some x → thread_runs_today x ≡ true) → pages_at cfg f t thread th ≡ false
+pages-today cfg f t None th today = refl
+pages-today cfg f t (Some thread) None today = refl
+pages-today cfg f t (Some thread) (Some th) today =
+    page_call-today (instruction_in f t thread th (slice_get cfg.boxes thread.home.0))
+        (instruction-today cfg f t thread th (slice_get cfg.boxes thread.home.0) (today thread refl))
+
+-- no slot is emptied
+pub empties-none : (cfg : Config) (f : Flat) (t : ThreadId) → RunsToday cfg → empties_slots cfg f (choice.Turn t true) ≡ false
+unfolding empties_slots
+empties-none cfg f t today =
+    rw (pages-today cfg f t.0 (slice_get cfg.threads t.0) (slice_get f.threads t.0)
+        (λ x at. list_all-get thread_runs_today cfg.threads t.0 x today at)) refl
+
+touch-turn : (cfg : Config) (f : Flat) (t : ThreadId) →
+    touch_of cfg f (choice.Turn t true) ≡ touch_at cfg f t.0 (slice_get cfg.threads t.0) (slice_get f.threads t.0)
+unfolding touch_of
+touch-turn cfg f t = refl
+
+-- the unit's lines of a turn of no box
+pub lines-none : (cfg : Config) (f : Flat) (u : UnitState) (t : ThreadId) →
+    acting_box (slice_get cfg.threads t.0) (slice_get f.threads t.0) ≡ None → unit_lines cfg f u (choice.Turn t true) ≡ []
+unfolding unit_lines
+lines-none cfg f u t none = ap (λ b. lines_of_box cfg f u (choice.Turn t true) b (part_at cfg b)) none
+
+-- the unit after a turn of no box
+pub after-none : (cfg : Config) (f : Flat) (u : UnitState) (t : ThreadId) →
+    acting_box (slice_get cfg.threads t.0) (slice_get f.threads t.0) ≡ None → unit_after cfg f u (choice.Turn t true) ≡ u
+unfolding unit_after
+after-none cfg f u t none = ap (λ b. unit_after_box cfg f u (choice.Turn t true) b (part_at cfg b)) none
+
+-- the unit's lines of a turn of a box that is not there
+pub lines-nowhere : (cfg : Config) (f : Flat) (u : UnitState) (t : ThreadId) (b : BoxId) →
+    acting_box (slice_get cfg.threads t.0) (slice_get f.threads t.0) ≡ Some b → slice_get cfg.boxes b.0 ≡ None →
+    unit_lines cfg f u (choice.Turn t true) ≡ []
+unfolding unit_lines
+lines-nowhere cfg f u t b acting none =
+    ap (λ b. lines_of_box cfg f u (choice.Turn t true) b (part_at cfg b)) acting
+    ∙ ap (λ part. lines_of_box cfg f u (choice.Turn t true) (Some b) part) none
+
+pub after-nowhere : (cfg : Config) (f : Flat) (u : UnitState) (t : ThreadId) (b : BoxId) →
+    acting_box (slice_get cfg.threads t.0) (slice_get f.threads t.0) ≡ Some b → slice_get cfg.boxes b.0 ≡ None →
+    unit_after cfg f u (choice.Turn t true) ≡ u
+unfolding unit_after
+after-nowhere cfg f u t b acting none =
+    ap (λ b. unit_after_box cfg f u (choice.Turn t true) b (part_at cfg b)) acting
+    ∙ ap (λ part. unit_after_box cfg f u (choice.Turn t true) (Some b) part) none
+
+module _ (cfg : Config) (f : Flat) (u : UnitState) (t : ThreadId) (b : BoxId) (part : BoxPart)
+    (today : RunsToday cfg) (no_plan : HasNoPlan cfg)
+    (acting : acting_box (slice_get cfg.threads t.0) (slice_get f.threads t.0) ≡ Some b)
+    (at : slice_get cfg.boxes b.0 ≡ Some part) where
+
+  -- the unit's lines of a turn of a box
+  pub lines-box : unit_lines cfg f u (choice.Turn t true)
+      ≡ lines_of_event cfg b part [] u (touch_at cfg f t.0 (slice_get cfg.threads t.0) (slice_get f.threads t.0)) false
+  unfolding unit_lines
+  lines-box =
+      ap (λ b. lines_of_box cfg f u (choice.Turn t true) b (part_at cfg b)) acting
+      ∙ ap (λ part. lines_of_box cfg f u (choice.Turn t true) (Some b) part) at
+      ∙ ap (λ plan. lines_of_event cfg b part plan u (touch_of cfg f (choice.Turn t true)) (empties_slots cfg f (choice.Turn t true)))
+          (plan-none cfg f.shared.owners b.0 part no_plan at)
+      ∙ ap (λ empties. lines_of_event cfg b part [] u (touch_of cfg f (choice.Turn t true)) empties) (empties-none cfg f t today)
+      ∙ ap (λ access. lines_of_event cfg b part [] u access false) (touch-turn cfg f t)
+
+  -- the unit after a turn of a box
+  pub after-box : unit_after cfg f u (choice.Turn t true)
+      ≡ unit_after_event cfg b part [] u (touch_at cfg f t.0 (slice_get cfg.threads t.0) (slice_get f.threads t.0)) false
+  unfolding unit_after
+  after-box =
+      ap (λ b. unit_after_box cfg f u (choice.Turn t true) b (part_at cfg b)) acting
+      ∙ ap (λ part. unit_after_box cfg f u (choice.Turn t true) (Some b) part) at
+      ∙ ap (λ plan. unit_after_event cfg b part plan u (touch_of cfg f (choice.Turn t true)) (empties_slots cfg f (choice.Turn t true)))
+          (plan-none cfg f.shared.owners b.0 part no_plan at)
+      ∙ ap (λ empties. unit_after_event cfg b part [] u (touch_of cfg f (choice.Turn t true)) empties) (empties-none cfg f t today)
+      ∙ ap (λ access. unit_after_event cfg b part [] u access false) (touch-turn cfg f t)
+
+-- no pair rotates in from an empty plan
+pub rotating-none : (u : UnitState) (access : Access) → rotating_pair [] u access ≡ None
+rotating-none u access = by_verdict (is_granted (decision u.pairs access.at access.kind))
+  where
+  by_verdict : (b : Bool) → cond {A = Option Pair} b None None ≡ None
+  by_verdict true = refl
+  by_verdict false = refl

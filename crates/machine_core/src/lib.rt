@@ -1,0 +1,8 @@
+//! The machine: a configuration, the state of its boxes, and the legal log of what happened.
+#![tactic(auto)]
+
+mod machine;
+mod protection;
+mod record;
+
+pub use machine::Machine;

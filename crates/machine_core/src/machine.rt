@@ -1,0 +1,2 @@
+/// A machine.
+pub struct Machine;
