@@ -1,5 +1,5 @@
 -- What a turn is for the unit where nothing rotates in and no page is called for.
-use Rattle.std.proofs.Common.{◌≡◌, ℕ, zero, suc, ◌+◌, ◌≤◌, Bool, true, false, ◌&&◌, cond, Option, Some, None, List, [], ◌∷◌, ◌++◌, map, refl, sym, ap, ◌∙◌, subst, length, arith, append_assoc}
+use Rattle.std.proofs.Common.{◌≡◌, ℕ, zero, suc, ◌+◌, ◌≤◌, Bool, true, false, ◌&&◌, cond, Option, Some, None, List, [], ◌∷◌, ◌++◌, map, refl, sym, ap, ◌∙◌, subst, length, arith, append_assoc, append-nil, ◌<◌}
 use Rattle.std.specs.List.{AllByRecursion, slice_get}
 use Rattle.std.specs.Prelude.{is_none}
 use Rattle.std.proofs.lemmas.List.{map-append, length-map, length-append}
@@ -11,6 +11,7 @@ use Rattle.flat_model.specs.declared.events.Choice.{Choice}
 use Rattle.flat_model.specs.declared.events.Choice.TheVariants as choice
 use Rattle.flat_model.specs.declared.events.Logged.{Logged}
 use Rattle.flat_model.specs.declared.events.Logged.TheVariants as item
+use Rattle.flat_model.specs.declared.events.Reply.{Reply}
 use Rattle.flat_model.specs.declared.events.UnitLine.{UnitLine}
 use Rattle.flat_model.specs.declared.instructions.Instr.{Instr}
 use Rattle.flat_model.specs.declared.instructions.Instr.TheVariants as instr
@@ -22,7 +23,7 @@ use Rattle.flat_model.specs.declared.states.ThreadState.{ThreadState}
 use Rattle.flat_model.specs.Decision.{decision, is_granted}
 use Rattle.flat_model.specs.Interrupts.{due_interrupt}
 use Rattle.flat_model.specs.Plan.{plan_of}
-use Rattle.flat_model.specs.Step.{empties_slots, instruction_in, is_page_call, is_status, pages_at, reply_to, touch_at, touch_of}
+use Rattle.flat_model.specs.Step.{empties_slots, instruction_in, is_page_call, is_status, pages_at, reply_to, step, touch_at, touch_of}
 use Rattle.flat_model.specs.Thread.{has_ended, is_ready}
 use Rattle.flat_model.specs.Today.{RunsToday, is_run_today, runs_today, thread_runs_today}
 use Rattle.flat_model.specs.Trace.{World, event_items, world_after}
@@ -57,14 +58,14 @@ pages-today cfg f t None th today = refl
 pages-today cfg f t (Some thread) None today = refl
 pages-today cfg f t (Some thread) (Some th) today =
     page_call-today (instruction_in f t thread th (slice_get cfg.boxes thread.home.0))
-        (instruction-today cfg f t thread th (slice_get cfg.boxes thread.home.0) (today thread refl))
+    (instruction-today cfg f t thread th (slice_get cfg.boxes thread.home.0) (today thread refl))
 
 -- no slot is emptied
 pub empties-none : (cfg : Config) (f : Flat) (t : ThreadId) → RunsToday cfg → empties_slots cfg f (choice.Turn t true) ≡ false
 unfolding empties_slots
 empties-none cfg f t today =
     rw (pages-today cfg f t.0 (slice_get cfg.threads t.0) (slice_get f.threads t.0)
-        (λ x at. list_all-get thread_runs_today cfg.threads t.0 x today at)) refl
+    (λ x at. list_all-get thread_runs_today cfg.threads t.0 x today at)) refl
 
 touch-turn : (cfg : Config) (f : Flat) (t : ThreadId) →
     touch_of cfg f (choice.Turn t true) ≡ touch_at cfg f t.0 (slice_get cfg.threads t.0) (slice_get f.threads t.0)
@@ -104,7 +105,6 @@ module _ (cfg : Config) (f : Flat) (u : UnitState) (t : ThreadId) (b : BoxId) (p
     (today : RunsToday cfg) (no_plan : HasNoPlan cfg)
     (acting : acting_box (slice_get cfg.threads t.0) (slice_get f.threads t.0) ≡ Some b)
     (at : slice_get cfg.boxes b.0 ≡ Some part) where
-
   -- the unit's lines of a turn of a box
   pub lines-box : unit_lines cfg f u (choice.Turn t true)
       ≡ lines_of_event cfg b part [] u (touch_at cfg f t.0 (slice_get cfg.threads t.0) (slice_get f.threads t.0)) false
@@ -113,7 +113,7 @@ module _ (cfg : Config) (f : Flat) (u : UnitState) (t : ThreadId) (b : BoxId) (p
       ap (λ b. lines_of_box cfg f u (choice.Turn t true) b (part_at cfg b)) acting
       ∙ ap (λ part. lines_of_box cfg f u (choice.Turn t true) (Some b) part) at
       ∙ ap (λ plan. lines_of_event cfg b part plan u (touch_of cfg f (choice.Turn t true)) (empties_slots cfg f (choice.Turn t true)))
-          (plan-none cfg f.shared.owners b.0 part no_plan at)
+      (plan-none cfg f.shared.owners b.0 part no_plan at)
       ∙ ap (λ empties. lines_of_event cfg b part [] u (touch_of cfg f (choice.Turn t true)) empties) (empties-none cfg f t today)
       ∙ ap (λ access. lines_of_event cfg b part [] u access false) (touch-turn cfg f t)
 
@@ -125,7 +125,7 @@ module _ (cfg : Config) (f : Flat) (u : UnitState) (t : ThreadId) (b : BoxId) (p
       ap (λ b. unit_after_box cfg f u (choice.Turn t true) b (part_at cfg b)) acting
       ∙ ap (λ part. unit_after_box cfg f u (choice.Turn t true) (Some b) part) at
       ∙ ap (λ plan. unit_after_event cfg b part plan u (touch_of cfg f (choice.Turn t true)) (empties_slots cfg f (choice.Turn t true)))
-          (plan-none cfg f.shared.owners b.0 part no_plan at)
+      (plan-none cfg f.shared.owners b.0 part no_plan at)
       ∙ ap (λ empties. unit_after_event cfg b part [] u (touch_of cfg f (choice.Turn t true)) empties) (empties-none cfg f t today)
       ∙ ap (λ access. unit_after_event cfg b part [] u access false) (touch-turn cfg f t)
 
@@ -133,6 +133,42 @@ module _ (cfg : Config) (f : Flat) (u : UnitState) (t : ThreadId) (b : BoxId) (p
 pub rotating-none : (u : UnitState) (access : Access) → rotating_pair [] u access ≡ None
 rotating-none u access = by_verdict (is_granted (decision u.pairs access.at access.kind))
   where
-  by_verdict : (b : Bool) → cond {A = Option Pair} b None None ≡ None
-  by_verdict true = refl
-  by_verdict false = refl
+    by_verdict : (b : Bool) → cond {A = Option Pair} b None None ≡ None
+    by_verdict true = refl
+    by_verdict false = refl
+
+-- an event is its unit's lines and one entry
+pub event-length : (cfg : Config) (w : World) (c : Choice) → length (event_items cfg w c) ≡ length (unit_lines cfg w.flat w.unit c) + 1
+unfolding event_items
+event-length cfg w c =
+    length-append (map item.Unit (unit_lines cfg w.flat w.unit c)) (item.Core (record { choice = c; reply = reply_to cfg w.flat c }) ∷ [])
+    ∙ ap (λ n. n + 1) (length-map (unit_lines cfg w.flat w.unit c) (λ (l : UnitLine). item.Unit l))
+
+-- no line leaves the items as they were
+pub noted-none : (items : List Logged) (lines : List UnitLine) → lines ≡ [] → items ≡ items ++ map item.Unit lines
+noted-none items lines none = sym (ap (λ ls. items ++ map item.Unit ls) none ∙ append-nil items)
+
+-- there is room for the unit's lines and one item more
+pub noted-room : (items mid : List Logged) (lines : List UnitLine) (n capacity : ℕ) →
+    mid ≡ items ++ map item.Unit lines → length items + (length lines + 1) ≤ capacity → capacity ≤ n → length mid < n
+noted-room items mid lines n capacity is room larger =
+    let long : length mid ≡ length items + length lines =
+    ap length is ∙ length-append items (map item.Unit lines) ∙ ap (λ k. length items + k) (length-map lines (λ (l : UnitLine). item.Unit l)) in
+    omega arith
+
+-- the world after a choice
+pub world-is : (cfg : Config) (w : World) (c : Choice) (flat : Flat) (unit : UnitState) →
+    (step cfg w.flat c).0 ≡ flat → unit_after cfg w.flat w.unit c ≡ unit → world_after cfg w c ≡ record { flat = flat; unit = unit }
+unfolding world_after
+world-is cfg w c flat unit one two =
+    ap (λ f. record { flat = f; unit = unit_after cfg w.flat w.unit c }) one ∙ ap (λ u. record { flat = flat; unit = u }) two
+
+-- the items after the unit's lines and the entry
+pub event-made : (cfg : Config) (w : World) (c : Choice) (items mid all : List Logged) (r : Reply) →
+    mid ≡ items ++ map item.Unit (unit_lines cfg w.flat w.unit c) → all ≡ mid ++ item.Core (record { choice = c; reply = r }) ∷ [] →
+    reply_to cfg w.flat c ≡ r → all ≡ items ++ event_items cfg w c
+unfolding event_items
+event-made cfg w c items mid all r one two same =
+    two ∙ ap (λ xs. xs ++ item.Core (record { choice = c; reply = r }) ∷ []) one
+    ∙ append_assoc items (map item.Unit (unit_lines cfg w.flat w.unit c)) (item.Core (record { choice = c; reply = r }) ∷ [])
+    ∙ ap (λ s. items ++ (map item.Unit (unit_lines cfg w.flat w.unit c) ++ item.Core (record { choice = c; reply = s }) ∷ [])) (sym same)

@@ -36,6 +36,6 @@ with_event v c = v.items ++ event_items v.config (world_of v) c
 -- the machine after the event that a thread's word of the script stands for
 abbrev pub stepped : MachineView → ThreadId → MachineView
 stepped v t = record v {
-    extra = if ended_in (world_of v) t.0 then v.extra - 1 else v.extra;
-    items = with_event v (choice_of_thread v.config (world_of v).flat t);
-  }
+  extra = if ended_in (world_of v) t.0 then v.extra - 1 else v.extra;
+  items = with_event v (choice_of_thread v.config (world_of v).flat t);
+}

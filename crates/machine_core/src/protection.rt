@@ -17,7 +17,9 @@ const OFF: Pair = Pair { rbar: 0, rasr: 0 };
 
 /// RASR without SIZE of flash, of own memory, and of the region that hides the secret range.
 const FLASH: u32 = 0x0600_0001;
+
 const OWN: u32 = 0x1300_0001;
+
 const NO_ACCESS: u32 = 0x1000_0001;
 
 /// The unit as the boxes switch it: nothing rotates in.
@@ -104,7 +106,10 @@ impl Protection {
     pub(crate) fn new() -> Protection
         ensures { result ≡ spec.opening_unit }
     {
-        Protection { last: None, pairs: [OFF; SLOTS] }
+        Protection {
+            last: None,
+            pairs: [OFF; SLOTS],
+        }
     }
 
     /// Switches to a box, where it is not the last already: whether it did.

@@ -44,31 +44,28 @@ fn record_switch(
 
 // Decides an access, if there is one.
 fn record_access(unit: &Protection, access: Option<Access>, items: &mut Vec<Logged>)
-    requires {
-        length items.old.items + length (unit_words.access_lines [] unit.now access)
-            ≤ vec_capacity items.old
-    }
-    ensures items {
-        items.new.items ≡ items.old.items ++ map item.Unit (unit_words.access_lines [] unit.now access)
-    }
+    requires { length items.old.items + length (unit_words.access_lines [] unit.now access)
+        ≤ vec_capacity items.old }
+    ensures items { items.new.items ≡ items.old.items ++ map item.Unit (unit_words.access_lines [] unit.now access) }
     ensures capacity { vec_capacity items.old ≤ vec_capacity items.new }
 {
     if let Some(access) = access {
         let verdict = unit.decide(access.at, access.kind);
-        push(items, Logged::Unit(UnitLine::Access {
-            kind: access.kind,
-            size: access.size,
-            at: access.at,
-            verdict,
-        }));
+        push(
+            items,
+            Logged::Unit(UnitLine::Access {
+                kind: access.kind,
+                size: access.size,
+                at: access.at,
+                verdict,
+            }),
+        );
     }
 }
 
 // The box whose event a turn of a thread is for the unit: none where the thread has ended.
 fn acting_box(cfg: &Config, flat: &Flat, t: ThreadId) -> Option<BoxId>
-    ensures {
-        result ≡ unit_words.acting_box (slice_get cfg.now.threads t.0) (slice_get flat.now.threads t.0)
-    }
+    ensures { result ≡ unit_words.acting_box (slice_get cfg.now.threads t.0) (slice_get flat.now.threads t.0) }
 {
     let Some(program) = program_of(cfg, t) else {
         return None;
@@ -76,7 +73,11 @@ fn acting_box(cfg: &Config, flat: &Flat, t: ThreadId) -> Option<BoxId>
     let Some(thread) = thread_of(flat, t) else {
         return None;
     };
-    if has_ended(&thread) { None } else { Some(program.home) }
+    if has_ended(&thread) {
+        None
+    } else {
+        Some(program.home)
+    }
 }
 
 // The part of the box.
@@ -95,18 +96,12 @@ fn record_box(
     access: Option<Access>,
     items: &mut Vec<Logged>,
 )
-    requires {
-        length items.old.items
-            + length (unit_words.lines_of_event cfg.now b part.now [] unit.old access false)
-            ≤ vec_capacity items.old
-    }
-    ensures unit {
-        unit.new ≡ unit_words.unit_after_event cfg.now b part.now [] unit.old access false
-    }
-    ensures items {
-        items.new.items ≡ items.old.items
-            ++ map item.Unit (unit_words.lines_of_event cfg.now b part.now [] unit.old access false)
-    }
+    requires { length items.old.items
+        + length (unit_words.lines_of_event cfg.now b part.now [] unit.old access false)
+        ≤ vec_capacity items.old }
+    ensures unit { unit.new ≡ unit_words.unit_after_event cfg.now b part.now [] unit.old access false }
+    ensures items { items.new.items ≡ items.old.items
+        ++ map item.Unit (unit_words.lines_of_event cfg.now b part.now [] unit.old access false) }
     ensures capacity { vec_capacity items.old ≤ vec_capacity items.new }
 {
     record_switch(cfg, unit, b, part, items);
@@ -123,15 +118,11 @@ fn record_lines(
 )
     requires today { RunsToday cfg.now }
     requires no_plan { HasNoPlan cfg.now }
-    requires room {
-        length items.old.items + length (unit_words.unit_lines cfg.now flat.now unit.old (Choice.Turn t true))
-            ≤ vec_capacity items.old
-    }
+    requires room { length items.old.items + length (unit_words.unit_lines cfg.now flat.now unit.old (Choice.Turn t true))
+        ≤ vec_capacity items.old }
     ensures unit { unit.new ≡ unit_words.unit_after cfg.now flat.now unit.old (Choice.Turn t true) }
-    ensures items {
-        items.new.items ≡ items.old.items
-            ++ map item.Unit (unit_words.unit_lines cfg.now flat.now unit.old (Choice.Turn t true))
-    }
+    ensures items { items.new.items ≡ items.old.items
+        ++ map item.Unit (unit_words.unit_lines cfg.now flat.now unit.old (Choice.Turn t true)) }
     ensures capacity { vec_capacity items.old ≤ vec_capacity items.new }
 {
     let Some(b) = acting_box(cfg, flat, t) else {
@@ -154,19 +145,13 @@ pub(crate) fn record_turn(
     requires today { RunsToday cfg.now }
     requires no_plan { HasNoPlan cfg.now }
     requires steps { ForSome (slice_get flat.old.threads t.0) CanStep }
-    requires room {
-        length items.old.items
-            + length (event_items cfg.now (record { flat = flat.old; unit = unit.old }) (Choice.Turn t true))
-            ≤ vec_capacity items.old
-    }
-    ensures world {
-        world_after cfg.now (record { flat = flat.old; unit = unit.old }) (Choice.Turn t true)
-            ≡ record { flat = flat.new; unit = unit.new }
-    }
-    ensures items {
-        items.new.items ≡ items.old.items
-            ++ event_items cfg.now (record { flat = flat.old; unit = unit.old }) (Choice.Turn t true)
-    }
+    requires room { length items.old.items
+        + length (event_items cfg.now (record { flat = flat.old; unit = unit.old }) (Choice.Turn t true))
+        ≤ vec_capacity items.old }
+    ensures world { world_after cfg.now (record { flat = flat.old; unit = unit.old }) (Choice.Turn t true)
+        ≡ record { flat = flat.new; unit = unit.new } }
+    ensures items { items.new.items ≡ items.old.items
+        ++ event_items cfg.now (record { flat = flat.old; unit = unit.old }) (Choice.Turn t true) }
     ensures capacity { vec_capacity items.old ≤ vec_capacity items.new }
 {
     record_lines(cfg, flat, unit, t, items);
