@@ -5,6 +5,7 @@ pub mod Fields
 pub mod Flushing
 pub mod Granted
 pub mod Greatness
+pub mod NamedReplies
 pub mod HeldBytes
 pub mod PageGroups
 pub mod PagePairs
