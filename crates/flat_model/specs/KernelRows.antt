@@ -1,4 +1,4 @@
--- The kernel calls that change more than one thread, each a row of its own.
+-- The kernel calls that read or change what the threads share, each a row of its own.
 use Rattle.std.specs.Prelude.{ℕ, ◌+◌, ◌-◌, ◌/◌, ◌%◌, ◌^◌, Bool, true, false, ◌&&◌, nat_eq, unwrap_or, is_some, Option, Some, None, List, [], ◌∷◌, ◌++◌, take, if◌then◌else◌, slice_get, slice_set, bit_and, bit_or, bit_xor}
 use Rattle.addr_base.specs.declared.identity.BoxId.{BoxId}
 use Rattle.addr_base.specs.declared.identity.Ticket.{Ticket}
@@ -147,7 +147,7 @@ rpc_post_row who m th after (Some gate) =
     then record { shared = record m { calls = m.calls ++ call_by who th gate ∷ [] }; thread = after; reply = reply.Posted (th.count + 1) }
     else refused_row m th 3
 
--- `rpc_take` as a turn: not the server, or in a call. Where a call could be taken it is no turn, and empty here
+-- `rpc_take` as a turn: not the server, or in a call; a server in no call has no turn here, and its row is empty
 abbrev pub rpc_take_row : Shared → ThreadState → Bool → Option Ticket → Outcome
 rpc_take_row m th false serving = refused_row m th 9
 rpc_take_row m th true (Some ticket) = refused_row m th 11
