@@ -5,6 +5,8 @@ pub mod Fields
 pub mod Flushing
 pub mod Granted
 pub mod Greatness
+pub mod NamedChoices
+pub mod NamedLogs
 pub mod NamedReplies
 pub mod HeldBytes
 pub mod PageGroups
