@@ -5,6 +5,7 @@ pub mod Fields
 pub mod Flushing
 pub mod Granted
 pub mod Greatness
+pub mod LegalLogs
 pub mod NamedChoices
 pub mod NamedLogs
 pub mod NamedReplies
