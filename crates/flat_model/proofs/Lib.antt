@@ -1,6 +1,8 @@
 pub mod Blocks
 pub mod Covers
+pub mod Deciding
 pub mod Elements
+pub mod Exponents
 pub mod Fields
 pub mod Flushing
 pub mod Granted
