@@ -1,4 +1,6 @@
 pub mod Blocks
+pub mod Budgets
+pub mod Copies
 pub mod Covers
 pub mod Deciding
 pub mod Elements
@@ -12,11 +14,17 @@ pub mod NamedChoices
 pub mod NamedLogs
 pub mod NamedReplies
 pub mod HeldBytes
+pub mod KeptSteps
 pub mod PageGroups
+pub mod PageLemmas
 pub mod PagePairs
 pub mod Pieces
 pub mod Placed
 pub mod Powers
 pub mod Recovery
 pub mod Suited
+pub mod TodayLemmas
+pub mod TraceLemmas
 pub mod Turning
+pub mod WantLemmas
+pub mod Widths

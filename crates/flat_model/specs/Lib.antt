@@ -26,9 +26,12 @@ pub mod Run
 pub mod Script
 pub mod Sound
 pub mod Step
+pub mod Stepping
+pub mod StepsLeft
 pub mod Text
 pub mod Thread
 pub mod Trace
+pub mod Today
 pub mod Turn
 pub mod UnitRun
 pub mod Want
