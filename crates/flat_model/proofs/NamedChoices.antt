@@ -30,7 +30,7 @@ use Rattle.flat_model.specs.Calls.{is_posted_to, oldest_posted_by}
 use Rattle.flat_model.specs.Interrupts.{due_interrupt, has_line}
 use Rattle.flat_model.specs.KernelRows.{gateway_for}
 use Rattle.flat_model.specs.Log.{is_full_reply, is_idle_reply, is_named_choice, is_start_reply, is_turn_reply}
-use Rattle.flat_model.specs.Outcome.{Who}
+use Rattle.flat_model.specs.declared.actors.Who.{Who}
 use Rattle.flat_model.specs.Run.{LINES}
 use Rattle.flat_model.specs.Step.{fitting_step, home_of, reply_to, serve_at, server_row, start_row, step, turn_at, turn_in}
 use Rattle.flat_model.specs.Thread.{counted, has_ended, is_ready, is_waiting}

@@ -3,7 +3,7 @@ use Rattle.std.proofs.Common.{◌≡◌, ℕ, suc, ◌+◌, ◌-◌, ◌<◌, �
 use Rattle.std.specs.Prelude.{◌&&◌, MatchOption, nat_lt, if◌then◌else◌, slice_get, slice_set}
 use Rattle.std.specs.List.{AllByRecursion, list_all}
 use Rattle.std.proofs.lemmas.Bool.{cases_Bool, false≢true, lt-ltb}
-use Rattle.std.proofs.lemmas.List.{length-map, length-set}
+use Rattle.std.proofs.lemmas.List.{length-map, length-replicate, length-set}
 use Rattle.std.proofs.lemmas.Option.{slice_get_within}
 use Rattle.addr_base.specs.declared.identity.BoxId.{BoxId}
 use Rattle.addr_base.specs.declared.identity.ThreadId.{ThreadId}
@@ -255,7 +255,7 @@ length-state_after_all cfg f (c ∷ cs) = length-state_after_all cfg (state_afte
 
 length-opening : (cfg : Config) → length (opening_state cfg).threads ≡ length cfg.threads
 unfolding opening_state
-length-opening cfg = length-map cfg.threads (λ (_ : ThreadPart). opening_thread)
+length-opening cfg = length-replicate (length cfg.threads) opening_thread
 
 weaker : {X : Type 0} (P Q : X → Type 0) → ((x : X) → P x → Q x) → (xs : List X) → AllByRecursion P xs → AllByRecursion Q xs
 weaker P Q each [] all = tt

@@ -38,7 +38,8 @@ use Rattle.flat_model.specs.KernelRows.{gateway_for, gateway_read, gateway_writt
 use Rattle.flat_model.specs.Local.{local_row}
 use Rattle.flat_model.specs.Log.{ascends, is_named_frames, is_turn_reply}
 use Rattle.flat_model.specs.Memory.{word_at}
-use Rattle.flat_model.specs.Outcome.{Outcome, Who}
+use Rattle.flat_model.specs.declared.actors.Who.{Who}
+use Rattle.flat_model.specs.Outcome.{Outcome}
 use Rattle.flat_model.specs.Pages.{frame_at, frames_of, free_frames, is_bad_count, least_free, may_write_words}
 use Rattle.flat_model.specs.Run.{LINES}
 use Rattle.flat_model.specs.Thread.{bounded, counted, has_ended, is_waiting, register}
