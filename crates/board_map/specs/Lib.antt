@@ -1,0 +1,6 @@
+pub mod Keys
+pub mod Rows
+pub mod Tree
+pub mod Words
+pub mod Values
+pub mod Shape
