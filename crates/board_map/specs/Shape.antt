@@ -4,6 +4,7 @@ use Rattle.std.specs.Result.{result_err}
 use Rattle.std.specs.Str.{bytes_eq}
 use Rattle.std.specs.List.{list_any}
 use Rattle.flat_model.specs.First.{first_of, number, onward, refuse_if, unless_refused}
+use Rattle.flat_model.specs.declared.refusals.Key.{Key}
 use Rattle.flat_model.specs.declared.refusals.Key.TheVariants as key
 use Rattle.flat_model.specs.declared.refusals.Refused.{Refused}
 use Rattle.flat_model.specs.declared.refusals.Refused.TheVariants as refused
@@ -52,13 +53,27 @@ unfoldable pub places_in : Form → ℕ → ℕ → Items → List Place
 places_in f b i no_items = []
 places_in f b i (item d ds) = place_at (spot_in f b (number i)) f (as_table d) ++ places_in f b (i + 1) ds
 
+-- the key whose array has the tables of a kind
+abbrev pub array_key : Form → Key
+array_key form.Thread = key.Thread
+array_key form.Grant = key.Grant
+array_key form.Irq = key.Irq
+array_key form.Register = key.Register
+array_key form.Gateway = key.Gateway
+array_key form.Device = key.Device
+array_key _ = key.AtBox
+
+-- the tables of these kinds that a table's arrays hold, kind after kind
+unfoldable pub sections : ℕ → Members → List Form → List Place
+sections b ms [] = []
+sections b ms (f ∷ fs) = places_in f b 0 (items_at (array_key f) ms) ++ sections b ms fs
+
 -- a box, and then its threads, its grants and its lines
 unfoldable pub box_places : ℕ → Option Members → List Place
 box_places b None = []
 box_places b (Some ms) =
     record { spot = spot.AtBox b; form = form.AtBox; members = ms }
-    ∷ places_in form.Thread b 0 (items_at key.Thread ms)
-    ++ (places_in form.Grant b 0 (items_at key.Grant ms) ++ places_in form.Irq b 0 (items_at key.Irq ms))
+    ∷ sections b ms (form.Thread ∷ form.Grant ∷ form.Irq ∷ [])
 
 -- the boxes of an array from place i on, each with its tables
 unfoldable pub boxes_in : ℕ → Items → List Place
@@ -76,9 +91,7 @@ places doc =
     record { spot = spot.Top; form = form.Top; members = doc }
     ∷ board_places (table_at key.Board doc)
     ++ (boxes_in 0 (items_at key.AtBox doc)
-    ++ (places_in form.Register 0 0 (items_at key.Register doc)
-    ++ (places_in form.Gateway 0 0 (items_at key.Gateway doc)
-    ++ places_in form.Device 0 0 (items_at key.Device doc))))
+    ++ sections 0 doc (form.Register ∷ form.Gateway ∷ form.Device ∷ []))
 
 -- a row has this key
 abbrev pub is_known : List Row → List ℕ → Bool
