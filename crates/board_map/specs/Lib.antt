@@ -4,3 +4,4 @@ pub mod Tree
 pub mod Words
 pub mod Values
 pub mod Shape
+pub mod BoardText

@@ -1,15 +1,20 @@
 //! The shape of the input document, table by table, and the board that it describes.
 #![tactic(auto)]
 
+mod board;
 mod limits;
 mod rows;
+mod rules;
 mod totals;
 mod tree;
 mod values;
 mod walk;
 mod words;
 
+pub use board::read_board;
 pub use rows::{Choice, Each, Form, Format, Limit, Row, Rule, key_name};
+pub use rules::board_fault;
 pub use totals::Totals;
-pub use tree::{array_at, flag_at, integer_at, table_at, text_at, value_at, word_item};
+pub use tree::{array_at, elements, flag_at, integer_at, table_at, text_at, value_at, word_item};
+pub use walk::check_shape;
 pub use words::{op_of, rights_of, round_of};

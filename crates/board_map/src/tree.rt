@@ -35,8 +35,8 @@ pub fn array(value: &Value) -> Option<&[Value]>
     }
 }
 
-// The elements of an array; none where the value is no array.
-fn elements(value: &Value) -> &[Value]
+/// The elements of an array; none where the value is no array.
+pub fn elements(value: &Value) -> &[Value]
     ensures { items_view result.now ≡ items_or_none (as_array (view value.now)) }
 {
     match array(value) {

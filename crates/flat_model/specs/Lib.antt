@@ -1,3 +1,4 @@
+pub mod BoardRules
 pub mod First
 pub use Rattle.addr_base.specs.Powers
 pub use Rattle.addr_base.specs.Range
