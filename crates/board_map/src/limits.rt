@@ -42,8 +42,8 @@ fn are_more(items: &[Value], most: u32) -> bool
     items.len() > most as usize
 }
 
-// The steps of a thread.
-fn steps_of(table: &Table) -> u32
+/// The steps of a thread.
+pub fn steps_of(table: &Table) -> u32
     ensures { result ≡ steps_of (table_view table.now) }
 {
     integer_at(table, Key::Steps, 1, 100000, 10000)
@@ -107,8 +107,8 @@ pub fn after(form: Form, table: &Table, totals: Totals) -> Totals
     }
 }
 
-// Whether the box takes the secret.
-fn owns(table: &Table) -> bool
+/// Whether the box takes the secret.
+pub fn owns(table: &Table) -> bool
     ensures { result ≡ owns (table_view table.now) }
 {
     flag_at(table, Key::Secret).unwrap_or(false)

@@ -97,8 +97,8 @@ pub fn flag_at(table: &Table, key: Key) -> Option<bool>
     }
 }
 
-// The number, where it is from `low` to `high`, or else the default.
-fn bounded(number: Option<u64>, low: u32, high: u32, default: u32) -> u32
+/// The number, where it is from `low` to `high`, or else the default.
+pub fn bounded(number: Option<u64>, low: u32, high: u32, default: u32) -> u32
     ensures { result ≡ bounded low high default number }
 {
     match number {
