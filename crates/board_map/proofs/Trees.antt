@@ -1,5 +1,5 @@
 -- Arrays and tables of the document beside the lists and maps that hold them.
-use Rattle.std.proofs.Common.{◌≡◌, ℕ, suc, ◌+◌, ◌<◌, ◌≤◌, List, [], ◌∷◌, length, Option, Some, None, Bool, true, false, not, ◌||◌, String, BTreeMap, Global, string_bytes, get_or, option_and_then, refl, ap, sym, ◌∙◌, arith}
+use Rattle.std.proofs.Common.{◌≡◌, ℕ, suc, ◌<◌, ◌≤◌, List, [], ◌∷◌, length, Some, not, ◌||◌, String, BTreeMap, Global, string_bytes, get_or, option_and_then, refl, ap, sym, ◌∙◌}
 use Rattle.toml.specs.declared.value.Value.{Value}
 use Rattle.std.specs.List.{list_any}
 use Rattle.std.specs.Map.{keys_of}
@@ -7,7 +7,6 @@ use Rattle.std.specs.BTreeMap.{keys}
 use Rattle.toml.specs.View.{items_view, members_view, table_view, view}
 use Rattle.board_map.specs.declared.rows.Row.{Row}
 use Rattle.board_map.specs.Shape.{has_unknown, is_known}
-use Rattle.toml.specs.Data.{get_item}
 use Rattle.toml.proofs.Views.{get_item_within, get_item_past}
 use Rattle.board_map.specs.Tree.{bounded, count, natural_of, word_item}
 

@@ -1,5 +1,5 @@
 -- The board that a document describes.
-use Rattle.std.specs.Prelude.{ℕ, List, [], ◌∷◌, Option, Some, None, option_map, Result, Ok, Err, is_some, if◌then◌else◌}
+use Rattle.std.specs.Prelude.{List, [], ◌∷◌, Option, Some, None, option_map, Result, is_some, if◌then◌else◌}
 use Rattle.addr_base.specs.declared.ranges.Range.{Range}
 use Rattle.flat_model.specs.declared.boards.Board.{Board}
 use Rattle.flat_model.specs.declared.boards.HeapPart.{HeapPart}
@@ -10,7 +10,7 @@ use Rattle.flat_model.specs.declared.refusals.Refused.{Refused}
 use Rattle.flat_model.specs.declared.refusals.Refused.TheVariants as refused
 use Rattle.flat_model.specs.BoardRules.{board_fault}
 use Rattle.flat_model.specs.First.{unless_refused}
-use Rattle.toml.specs.Data.{Data, Items, no_items, item, Members, no_members, as_array}
+use Rattle.toml.specs.Data.{Items, no_items, item, Members, no_members, as_array}
 use Rattle.board_map.specs.Tree.{integer_at, items_at, items_or_none, table_at, value_at, word_item}
 
 -- the members of a table, or none

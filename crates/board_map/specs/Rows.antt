@@ -1,5 +1,5 @@
 -- The keys of each kind of table, in their order: rule, limit, and whether the key has to be there.
-use Rattle.std.specs.Prelude.{Bool, true, false, List, [], ◌∷◌}
+use Rattle.std.specs.Prelude.{true, false, List, [], ◌∷◌}
 use Rattle.flat_model.specs.declared.refusals.Key.{Key}
 use Rattle.flat_model.specs.declared.refusals.Key.TheVariants as key
 use Rattle.board_map.specs.declared.rows.Format.{Format}

@@ -1,5 +1,5 @@
 -- What a table of the document holds at a key, by type.
-use Rattle.std.specs.Prelude.{◌≡◌, ℕ, suc, ℤ, pos, negsuc, Bool, ◌&&◌, if◌then◌else◌, nat_le, List, Option, Some, None, option_and_then, option_map}
+use Rattle.std.specs.Prelude.{ℕ, suc, ℤ, pos, negsuc, Bool, ◌&&◌, if◌then◌else◌, nat_le, List, Option, Some, None, option_and_then}
 use Rattle.flat_model.specs.declared.refusals.Key.{Key}
 use Rattle.toml.specs.Data.{Data, Items, no_items, item, Members, get_member, get_item, as_integer, as_array, as_table, as_str, as_bool}
 use Rattle.board_map.specs.Keys.{key_name}

@@ -1,5 +1,5 @@
 -- What a value has to be, and how far lists and sums go.
-use Rattle.std.specs.Prelude.{ℕ, ◌+◌, Bool, true, false, not, ◌&&◌, ◌||◌, ◌==◌, nat_le, nat_lt, if◌then◌else◌, List, codes, Option, Some, None, is_some, is_none, nat_eq, option_and_then, unwrap_or}
+use Rattle.std.specs.Prelude.{ℕ, ◌+◌, Bool, true, false, not, ◌&&◌, ◌||◌, ◌==◌, nat_le, nat_lt, if◌then◌else◌, List, codes, Option, Some, None, is_some, nat_eq, option_and_then, unwrap_or}
 use Rattle.std.specs.List.{starts_with}
 use Rattle.flat_model.specs.First.{number}
 use Rattle.flat_model.specs.declared.refusals.Key.{Key}

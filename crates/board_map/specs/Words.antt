@@ -1,5 +1,5 @@
 -- The words that stand for rights, for a rounding and for an operation.
-use Rattle.std.specs.Prelude.{ℕ, Bool, false, if◌then◌else◌, List, codes, Option, Some, None, is_some}
+use Rattle.std.specs.Prelude.{ℕ, Bool, if◌then◌else◌, List, codes, Option, Some, None, is_some}
 use Rattle.std.specs.Str.{bytes_eq}
 use Rattle.addr_base.specs.declared.rights.Rights.{Rights}
 use Rattle.addr_base.specs.Rights.{read_only, read_write, read_execute, all_rights}

@@ -16,6 +16,9 @@ pub use limits::{owns, steps_of};
 pub use rows::{Choice, Each, Form, Format, Limit, Row, Rule, key_name};
 pub use rules::board_fault;
 pub use totals::Totals;
-pub use tree::{array_at, bounded, elements, flag_at, integer_at, natural, table_at, text_at, value_at, word_item};
+pub use tree::{
+    array_at, bounded, elements, flag_at, integer_at, natural, number, table_at, text_at, value_at,
+    word_item,
+};
 pub use walk::check_shape;
 pub use words::{op_of, rights_of, round_of};

@@ -95,7 +95,12 @@ static BOARD: [Row; 6] = [
     Row(Key::Sram, Rule::Pair, Limit::Free, true),
     Row(Key::Peripherals, Rule::Pair, Limit::Free, true),
     Row(Key::Secret, Rule::Pair, Limit::Free, false),
-    Row(Key::Words, Rule::Array(Each::Pair, false), Limit::Items(64), false),
+    Row(
+        Key::Words,
+        Rule::Array(Each::Pair, false),
+        Limit::Items(64),
+        false,
+    ),
     Row(Key::Heap, Rule::Table, Limit::Free, false),
 ];
 
@@ -146,9 +151,12 @@ static GATEWAY: [Row; 3] = [
     Row(Key::Callers, TEXTS, Limit::Items(8), true),
 ];
 
-static DEVICE: [Row; 1] = [
-    Row(Key::Rings, Rule::Array(Each::Line, false), Limit::Rings, true),
-];
+static DEVICE: [Row; 1] = [Row(
+    Key::Rings,
+    Rule::Array(Each::Line, false),
+    Limit::Rings,
+    true,
+)];
 
 /// The keys of a kind of table, in their order.
 #[tactic(auto, unfolding(crate::specs::Rows::rows_of))]

@@ -45,16 +45,19 @@ pub fn elements(value: &Value) -> &[Value]
     }
 }
 
+/// A place as the input's places are kept: it stops at 2^32 - 1.
+pub fn number(i: usize) -> u32
+    ensures { result ≡ number i }
+{
+    if i < 4294967295 { i as u32 } else { 4294967295 }
+}
+
 /// How many elements there are, as the input's numbers are kept.
 #[tactic(auto, using(crate::proofs::Trees::count_of_items))]
 pub fn count(items: &[Value]) -> u32
     ensures { result ≡ number (count (items_view items.now)) }
 {
-    if items.len() < 4294967295 {
-        items.len() as u32
-    } else {
-        4294967295
-    }
+    number(items.len())
 }
 
 /// The elements of the array at a key; none where there is no array.

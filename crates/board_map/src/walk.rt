@@ -1,7 +1,7 @@
 ghost use Rattle.std.specs.Prelude.{◌≡◌, not, option_map, string_bytes};
 ghost use Rattle.std.specs.List.{list_any};
 ghost use Rattle.std.specs.BTreeMap.{keys};
-ghost use Rattle.flat_model.specs.First.{first_of, number, refuse_if, unless_refused};
+ghost use Rattle.flat_model.specs.First.{first_of, refuse_if, unless_refused};
 ghost use Rattle.flat_model.specs.declared.refusals.Key.TheVariants as key;
 ghost use Rattle.flat_model.specs.declared.refusals.Spot.TheVariants as spot;
 ghost use Rattle.toml.specs.View.{items_view, table_view, view};
@@ -13,7 +13,7 @@ ghost use Rattle.board_map.specs.Tree.{items_at, table_at, value_at};
 use crate::limits::{after, is_over};
 use crate::rows::{Form, Format, Row, key_name, rows};
 use crate::totals::Totals;
-use crate::tree::{array_at, table_at, value_at};
+use crate::tree::{array_at, number, table_at, value_at};
 use crate::values::fits;
 use flat_model::{Key, Refused, Spot};
 use toml::{Table, Value};
@@ -85,13 +85,7 @@ fn row_refusal(pass: Pass, totals: Totals, spot: Spot, table: &Table, row: Row) 
 }
 
 // What a pass refuses of the first key that it refuses.
-fn first_row(
-    pass: Pass,
-    totals: Totals,
-    spot: Spot,
-    table: &Table,
-    rows: &[Row],
-) -> Option<Refused>
+fn first_row(pass: Pass, totals: Totals, spot: Spot, table: &Table, rows: &[Row]) -> Option<Refused>
     ensures { result ≡ first_of (row_refusal pass totals spot (table_view table.now)) rows.now }
 {
     for row in rows {
@@ -170,13 +164,6 @@ fn spot_in(form: Form, at_box: u32, i: u32) -> Spot
     }
 }
 
-// A place as the input's places are kept.
-fn number(i: usize) -> u32
-    ensures { result ≡ number i }
-{
-    if i < 4294967295 { i as u32 } else { 4294967295 }
-}
-
 // A pass over the tables of an array that hold no tables.
 fn leaves(
     pass: Pass,
@@ -228,16 +215,17 @@ fn sections(
 
 // A pass over a box and the tables in it.
 #[tactic(auto, using(crate::proofs::Walks::steps), unfolding(crate::specs::Shape::box_places))]
-fn whole_box(
-    pass: Pass,
-    totals: Totals,
-    at_box: u32,
-    table: &Table,
-) -> Result<Totals, Refused>
+fn whole_box(pass: Pass, totals: Totals, at_box: u32, table: &Table) -> Result<Totals, Refused>
     ensures { result ≡ walk pass totals (box_places at_box (Some (table_view table.now))) }
 {
     let own = visit(pass, totals, Spot::AtBox(at_box), Form::AtBox, table)?;
-    sections(pass, own, at_box, table, &[Form::Thread, Form::Grant, Form::Irq])
+    sections(
+        pass,
+        own,
+        at_box,
+        table,
+        &[Form::Thread, Form::Grant, Form::Irq],
+    )
 }
 
 // A pass over the box that a value is, if it is a table.
@@ -274,7 +262,13 @@ fn board(pass: Pass, totals: Totals, table: Option<&Table>) -> Result<Totals, Re
     match table {
         Some(table) => {
             let own = visit(pass, totals, Spot::Board, Form::Board, table)?;
-            leaf(pass, own, Spot::Heap, Form::Heap, table_at(table, Key::Heap))
+            leaf(
+                pass,
+                own,
+                Spot::Heap,
+                Form::Heap,
+                table_at(table, Key::Heap),
+            )
         }
         None => Ok(totals),
     }
@@ -288,7 +282,13 @@ fn everywhere(pass: Pass, totals: Totals, document: &Table) -> Result<Totals, Re
     let top = visit(pass, totals, Spot::Top, Form::Top, document)?;
     let board = board(pass, top, table_at(document, Key::Board))?;
     let boxes = boxes(pass, board, array_at(document, Key::AtBox))?;
-    sections(pass, boxes, 0, document, &[Form::Register, Form::Gateway, Form::Device])
+    sections(
+        pass,
+        boxes,
+        0,
+        document,
+        &[Form::Register, Form::Gateway, Form::Device],
+    )
 }
 
 // What is known before the first table.

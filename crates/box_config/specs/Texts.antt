@@ -1,8 +1,9 @@
 -- The boxes, gateways, devices and script that a document describes, as they are written.
-use Rattle.std.specs.Prelude.{ℕ, ◌-◌, false, List, [], ◌∷◌, ◌++◌, length, Option, Some, None, option_map, option_and_then, option_to_list, unwrap_or}
+use Rattle.std.specs.Prelude.{ℕ, ◌-◌, false, List, [], ◌∷◌, ◌++◌, length, option_map, option_and_then, option_to_list, unwrap_or}
 use Rattle.addr_base.specs.Rights.{read_only}
 use Rattle.addr_base.specs.declared.identity.Line.{Line}
 use Rattle.addr_base.specs.declared.rights.Rights.{Rights}
+use Rattle.flat_model.specs.First.{number}
 use Rattle.flat_model.specs.declared.parts.DevicePart.{DevicePart}
 use Rattle.flat_model.specs.declared.parts.IrqPart.{IrqPart}
 use Rattle.flat_model.specs.declared.parts.Op.{Op}
@@ -17,7 +18,7 @@ use Rattle.flat_model.specs.declared.texts.Round.{Round}
 use Rattle.flat_model.specs.declared.texts.Round.TheVariants as round
 use Rattle.flat_model.specs.declared.texts.RpcText.{RpcText}
 use Rattle.flat_model.specs.declared.texts.ThreadText.{ThreadText}
-use Rattle.toml.specs.Data.{Data, Items, no_items, item, Members, as_str, as_table}
+use Rattle.toml.specs.Data.{Items, no_items, item, Members, as_str, as_table}
 use Rattle.board_map.specs.Tree.{bounded, flag_at, integer_at, items_at, natural_of, text_at, value_at}
 use Rattle.board_map.specs.Values.{owns, steps_of}
 use Rattle.board_map.specs.Words.{op_of, rights_of, round_of}
@@ -79,7 +80,7 @@ irq_part ms = record {
 
 -- the place of the server among that many threads; 0 where there is none such
 abbrev pub server_among : ℕ → Members → ℕ
-server_among threads ms = bounded 0 (threads - 1) 0 (option_and_then natural_of (value_at key.Server ms))
+server_among threads ms = bounded 0 (number (threads - 1)) 0 (option_and_then natural_of (value_at key.Server ms))
 
 -- the threads of a box
 abbrev pub threads_of : Members → List ThreadText

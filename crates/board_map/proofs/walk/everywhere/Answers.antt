@@ -17,7 +17,7 @@ returns-in_err-board c =
     let p = err_from_is_err_and c.from_residual-in_err-board.result c.from_residual-in_err-board.ensures.1 in
     rw (p.1, p.2)
     (sym (first_then c.args.pass c.args.totals _ _ _ (sym c.visit.ensures ∙ c.in_ok-top.was)
-      ∙ walk_stop c.args.pass _ _ _ _ (sym seen ∙ c.in_err-board.was)))
+    ∙ walk_stop c.args.pass _ _ _ _ (sym seen ∙ c.in_err-board.was)))
 
 pub returns-in_err-boxes : goal.returns-in_err-boxes
 unfolding places
@@ -27,8 +27,8 @@ returns-in_err-boxes c =
     let p = err_from_is_err_and c.from_residual-in_err-boxes.result c.from_residual-in_err-boxes.ensures.1 in
     rw (p.1, p.2)
     (sym (first_then c.args.pass c.args.totals _ _ _ (sym c.visit.ensures ∙ c.in_ok-top.was)
-      ∙ walk_then c.args.pass _ _ _ _ (sym seen ∙ c.in_ok-board.was)
-      ∙ walk_stop c.args.pass _ _ _ _ (sym boxes ∙ c.in_err-boxes.was)))
+    ∙ walk_then c.args.pass _ _ _ _ (sym seen ∙ c.in_ok-board.was)
+    ∙ walk_stop c.args.pass _ _ _ _ (sym boxes ∙ c.in_err-boxes.was)))
 
 pub returns : goal.returns
 unfolding places
@@ -37,5 +37,5 @@ returns c =
     let boxes = rw c.array_at.ensures at c.boxes.ensures in
     c.sections.ensures
     ∙ sym (first_then c.args.pass c.args.totals _ _ _ (sym c.visit.ensures ∙ c.in_ok-top.was)
-      ∙ walk_then c.args.pass _ _ _ _ (sym seen ∙ c.in_ok-board.was)
-      ∙ walk_then c.args.pass _ _ _ _ (sym boxes ∙ c.in_ok-boxes.was))
+    ∙ walk_then c.args.pass _ _ _ _ (sym seen ∙ c.in_ok-board.was)
+    ∙ walk_then c.args.pass _ _ _ _ (sym boxes ∙ c.in_ok-boxes.was))

@@ -1,4 +1,4 @@
-use Rattle.std.proofs.Common.{sym, ◌∙◌, arith}
+use Rattle.std.proofs.Common.{sym, ◌∙◌}
 use Rattle.std.proofs.lemmas.Result.{err_from_is_err_and}
 use Rattle.board_map.proofs.Walks.{rest_end, rest_more}
 use Rattle.board_map.proofs.walk.leaves.Goals as goal

@@ -1,4 +1,4 @@
-use Rattle.std.proofs.Common.{◌≡◌, ◌++◌, drop, map, string_bytes}
+use Rattle.std.proofs.Common.{◌≡◌, ◌++◌, drop}
 use Rattle.toml.specs.View.{items_view}
 use Rattle.box_config.specs.Texts.{from_tables, grant_text}
 use Rattle.box_config.proofs.parts.grants_of.Given as goal
