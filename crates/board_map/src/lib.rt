@@ -5,6 +5,8 @@ mod board;
 mod limits;
 mod rows;
 mod rules;
+#[cfg(test)]
+mod tests;
 mod totals;
 mod tree;
 mod values;
