@@ -1,4 +1,5 @@
 pub mod Blocks
+pub mod BoardFacts
 pub mod Budgets
 pub mod Copies
 pub mod Covers
@@ -9,12 +10,12 @@ pub mod Fields
 pub mod Flushing
 pub mod Granted
 pub mod Greatness
+pub mod HeldBytes
+pub mod KeptSteps
 pub mod LegalLogs
 pub mod NamedChoices
 pub mod NamedLogs
 pub mod NamedReplies
-pub mod HeldBytes
-pub mod KeptSteps
 pub mod PageGroups
 pub mod PageLemmas
 pub mod PagePairs
