@@ -1,4 +1,5 @@
 pub mod Blocks
+pub mod BoardFacts
 pub mod Budgets
 pub mod Copies
 pub mod Covers
@@ -11,6 +12,10 @@ pub mod Granted
 pub mod Greatness
 pub mod HeldBytes
 pub mod KeptSteps
+pub mod LegalLogs
+pub mod NamedChoices
+pub mod NamedLogs
+pub mod NamedReplies
 pub mod PageGroups
 pub mod PageLemmas
 pub mod PagePairs

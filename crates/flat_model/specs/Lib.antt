@@ -3,10 +3,12 @@ pub use Rattle.addr_base.specs.Range
 pub use Rattle.addr_base.specs.Rights
 pub mod Access
 pub mod AccessRows
+pub mod BoardRules
 pub mod Calls
 pub mod Cells
 pub mod Cover
 pub mod Decision
+pub mod First
 pub mod Greatest
 pub mod Interrupts
 pub mod Items
@@ -30,8 +32,8 @@ pub mod Stepping
 pub mod StepsLeft
 pub mod Text
 pub mod Thread
-pub mod Trace
 pub mod Today
+pub mod Trace
 pub mod Turn
 pub mod UnitRun
 pub mod Want
