@@ -16,6 +16,7 @@ pub mod LegalLogs
 pub mod NamedChoices
 pub mod NamedLogs
 pub mod NamedReplies
+pub mod Owners
 pub mod PageGroups
 pub mod PageLemmas
 pub mod PagePairs
