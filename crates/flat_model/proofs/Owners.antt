@@ -70,22 +70,22 @@ access-owners : (cfg : Config) (home : ℕ) (m : Shared) (th : ThreadState) (acc
     (access_row cfg home m th access).shared.owners ≡ m.owners
 access-owners cfg home m th access = by_tests (is_aligned access.at access.size) (may_access cfg m.owners home access.at access.size access.kind)
   where
-  by_tests : (b c : Bool) →
-      (cond {A = Outcome} b (cond c (performed_row cfg.board m th access access.kind)
-          (fault_row m th (violation_of access.kind) access.at)) (fault_row m th flaw.Unaligned access.at)).shared.owners ≡ m.owners
-  by_tests true true = performed-owners cfg.board m th access access.kind
-  by_tests true false = refl
-  by_tests false c = refl
+    by_tests : (b c : Bool) →
+        (cond {A = Outcome} b (cond c (performed_row cfg.board m th access access.kind)
+        (fault_row m th (violation_of access.kind) access.at)) (fault_row m th flaw.Unaligned access.at)).shared.owners ≡ m.owners
+    by_tests true true = performed-owners cfg.board m th access access.kind
+    by_tests true false = refl
+    by_tests false c = refl
 
 irq_enable-owners : (m : Shared) (th : ThreadState) (irqs : List IrqPart) (line : ℕ) (on : Bool) →
     (irq_enable_row m th irqs line on).shared.owners ≡ m.owners
 irq_enable-owners m th irqs line on = by_line (has_line line irqs)
   where
-  by_line : (b : Bool) → (cond {A = Outcome} b
-      (done_row (record m { lines = record m.lines { enabled = slice_set m.lines.enabled line on } }) th)
-      (refused_row m th 9)).shared.owners ≡ m.owners
-  by_line true = refl
-  by_line false = refl
+    by_line : (b : Bool) → (cond {A = Outcome} b
+        (done_row (record m { lines = record m.lines { enabled = slice_set m.lines.enabled line on } }) th)
+        (refused_row m th 9)).shared.owners ≡ m.owners
+    by_line true = refl
+    by_line false = refl
 
 irq_return-owners : (home : ℕ) (m : Shared) (th : ThreadState) (b : Bool) (context : Option Context) →
     (irq_return_row home m th b context).shared.owners ≡ m.owners
@@ -119,9 +119,9 @@ post-owners : (who : Who) (m : Shared) (th after : ThreadState) (gate : Option R
 post-owners who m th after None = refl
 post-owners who m th after (Some gate) = by_room who.room
   where
-  by_room : (b : Bool) → (rpc_post_row (record who { room = b }) m th after (Some gate)).shared.owners ≡ m.owners
-  by_room true = refl
-  by_room false = refl
+    by_room : (b : Bool) → (rpc_post_row (record who { room = b }) m th after (Some gate)).shared.owners ≡ m.owners
+    by_room true = refl
+    by_room false = refl
 
 take-owners : (m : Shared) (th : ThreadState) (server : Bool) (serving : Option Ticket) → (rpc_take_row m th server serving).shared.owners ≡ m.owners
 take-owners m th false serving = refl
@@ -140,11 +140,11 @@ result-owners : (m : Shared) (th : ThreadState) (r : ℕ) (ticket : Ticket) (cal
 result-owners m th r ticket None = refl
 result-owners m th r ticket (Some call) = by_state call.state
   where
-  by_state : (s : CallState) → (rpc_result_row m th r ticket (Some (record call { state = s }))).shared.owners ≡ m.owners
-  by_state state.Posted = refl
-  by_state state.Started = refl
-  by_state (state.Done value) = refl
-  by_state state.Collected = refl
+    by_state : (s : CallState) → (rpc_result_row m th r ticket (Some (record call { state = s }))).shared.owners ≡ m.owners
+    by_state state.Posted = refl
+    by_state state.Started = refl
+    by_state (state.Done value) = refl
+    by_state state.Collected = refl
 
 -- ---- page calls
 
@@ -161,35 +161,35 @@ given-owners board home m th table None None i page = unchanged m m (Some i) (re
 given-owners board home m th table None (Some frames) i page = unchanged m m (Some i) (reply.Status 5) refl
 given-owners board home m th table (Some heap) None i page = unchanged m m (Some i) (reply.Status 5) refl
 given-owners board home m th table (Some heap) (Some frames) i page = record {
-    count = with_owner-length (Some (record { 0 = home })) frames m.owners;
-    same = λ none. absurd (let e : true ≡ false = sym (ap (λ b. b && true) page) ∙ none in cc);
-  }
+  count = with_owner-length (Some (record { 0 = home })) frames m.owners;
+  same = λ none. absurd (let e : true ≡ false = sym (ap (λ b. b && true) page) ∙ none in cc);
+}
 
 alloc-owners : (cfg : Config) (home : ℕ) (m : Shared) (th : ThreadState) (n table : ℕ) (i : Instr) → is_page_call (Some i) ≡ true →
     KeepsOwners m (pages_alloc_row cfg home m th n table).shared (Some i) (pages_alloc_row cfg home m th n table).reply
 alloc-owners cfg home m th n table i page = by_tests (is_bad_count n) (may_write_words cfg m.owners home table n)
   where
-  by_tests : (b c : Bool) → KeepsOwners m (cond {A = Outcome} b (refused_row m th 13)
-          (cond c (pages_or_none_row cfg.board home m th table cfg.board.heap (least_free n m.owners)) (refused_row m th 6))).shared (Some i)
-      (cond {A = Outcome} b (refused_row m th 13)
-          (cond c (pages_or_none_row cfg.board home m th table cfg.board.heap (least_free n m.owners)) (refused_row m th 6))).reply
-  by_tests true c = unchanged m m (Some i) (reply.Status 13) refl
-  by_tests false true = given-owners cfg.board home m th table cfg.board.heap (least_free n m.owners) i page
-  by_tests false false = unchanged m m (Some i) (reply.Status 6) refl
+    by_tests : (b c : Bool) → KeepsOwners m (cond {A = Outcome} b (refused_row m th 13)
+        (cond c (pages_or_none_row cfg.board home m th table cfg.board.heap (least_free n m.owners)) (refused_row m th 6))).shared (Some i)
+        (cond {A = Outcome} b (refused_row m th 13)
+        (cond c (pages_or_none_row cfg.board home m th table cfg.board.heap (least_free n m.owners)) (refused_row m th 6))).reply
+    by_tests true c = unchanged m m (Some i) (reply.Status 13) refl
+    by_tests false true = given-owners cfg.board home m th table cfg.board.heap (least_free n m.owners) i page
+    by_tests false false = unchanged m m (Some i) (reply.Status 6) refl
 
 free-owners : (home : ℕ) (m : Shared) (th : ThreadState) (frame : Option ℕ) (i : Instr) → is_page_call (Some i) ≡ true →
     KeepsOwners m (page_free_row home m th frame).shared (Some i) (page_free_row home m th frame).reply
 free-owners home m th None i page = unchanged m m (Some i) (reply.Status 7) refl
 free-owners home m th (Some frame) i page = by_owner (owned_by home (unwrap_or (slice_get m.owners frame) None))
   where
-  by_owner : (b : Bool) → KeepsOwners m
-      (cond {A = Outcome} b (done_row (record m { owners = slice_set m.owners frame None }) th) (refused_row m th 8)).shared (Some i)
-      (cond {A = Outcome} b (done_row (record m { owners = slice_set m.owners frame None }) th) (refused_row m th 8)).reply
-  by_owner true = record {
+    by_owner : (b : Bool) → KeepsOwners m
+        (cond {A = Outcome} b (done_row (record m { owners = slice_set m.owners frame None }) th) (refused_row m th 8)).shared (Some i)
+        (cond {A = Outcome} b (done_row (record m { owners = slice_set m.owners frame None }) th) (refused_row m th 8)).reply
+    by_owner true = record {
       count = length-set m.owners frame None;
       same = λ none. absurd (let e : true ≡ false = sym (ap (λ b. b && true) page) ∙ none in cc);
     }
-  by_owner false = unchanged m m (Some i) (reply.Status 8) refl
+    by_owner false = unchanged m m (Some i) (reply.Status 8) refl
 
 -- ---- instructions
 
@@ -204,28 +204,28 @@ kernel-owners cfg who part m th (instr.IrqOn n) = keeps m (irq_enable_row m th p
 kernel-owners cfg who part m th (instr.IrqOff n) = keeps m (irq_enable_row m th part.irqs n false) (Some (instr.IrqOff n)) (irq_enable-owners m th part.irqs n false)
 kernel-owners cfg who part m th instr.IrqReturn =
     keeps m (irq_return_row who.home.0 m th (nat_eq who.thread.0 part.first) (saved_context m.lines who.home.0)) (Some instr.IrqReturn)
-        (irq_return-owners who.home.0 m th (nat_eq who.thread.0 part.first) (saved_context m.lines who.home.0))
+    (irq_return-owners who.home.0 m th (nat_eq who.thread.0 part.first) (saved_context m.lines who.home.0))
 kernel-owners cfg who part m th (instr.GwRead d n) =
     keeps m (gw_read_row cfg.board m th d (register_for who.home.0 (slice_get cfg.registers n))) (Some (instr.GwRead d n))
-        (gw_read-owners cfg.board m th d (register_for who.home.0 (slice_get cfg.registers n)))
+    (gw_read-owners cfg.board m th d (register_for who.home.0 (slice_get cfg.registers n)))
 kernel-owners cfg who part m th (instr.GwWrite s n) =
     keeps m (gw_write_row cfg.board m th (register th s) (register_for who.home.0 (slice_get cfg.registers n))) (Some (instr.GwWrite s n))
-        (gw_write-owners cfg.board m th (register th s) (register_for who.home.0 (slice_get cfg.registers n)))
+    (gw_write-owners cfg.board m th (register th s) (register_for who.home.0 (slice_get cfg.registers n)))
 kernel-owners cfg who part m th (instr.RpcCall d n) =
     keeps m (rpc_post_row who m th (posted th d) (gateway_for who.home.0 (slice_get cfg.gateways n))) (Some (instr.RpcCall d n))
-        (post-owners who m th (posted th d) (gateway_for who.home.0 (slice_get cfg.gateways n)))
+    (post-owners who m th (posted th d) (gateway_for who.home.0 (slice_get cfg.gateways n)))
 kernel-owners cfg who part m th (instr.RpcSync n looks) =
     keeps m (rpc_post_row who m th (posted_and_waiting th looks) (gateway_for who.home.0 (slice_get cfg.gateways n))) (Some (instr.RpcSync n looks))
-        (post-owners who m th (posted_and_waiting th looks) (gateway_for who.home.0 (slice_get cfg.gateways n)))
+    (post-owners who m th (posted_and_waiting th looks) (gateway_for who.home.0 (slice_get cfg.gateways n)))
 kernel-owners cfg who part m th instr.RpcTake =
     keeps m (rpc_take_row m th (is_server who part) (served_ticket m who.home.0)) (Some instr.RpcTake)
-        (take-owners m th (is_server who part) (served_ticket m who.home.0))
+    (take-owners m th (is_server who part) (served_ticket m who.home.0))
 kernel-owners cfg who part m th (instr.RpcReturn s) =
     keeps m (rpc_return_row who.home.0 m th (register th s) (is_server who part) (served_ticket m who.home.0)) (Some (instr.RpcReturn s))
-        (return-owners who.home.0 m th (register th s) (is_server who part) (served_ticket m who.home.0))
+    (return-owners who.home.0 m th (register th s) (is_server who part) (served_ticket m who.home.0))
 kernel-owners cfg who part m th (instr.RpcResult d s) =
     keeps m (rpc_result_row m th d (own_ticket who (register th s)) (open_call (own_ticket who (register th s)) m.calls)) (Some (instr.RpcResult d s))
-        (result-owners m th d (own_ticket who (register th s)) (open_call (own_ticket who (register th s)) m.calls))
+    (result-owners m th d (own_ticket who (register th s)) (open_call (own_ticket who (register th s)) m.calls))
 kernel-owners cfg who part m th i = keeps m (kernel_row cfg who part m th i) (Some i) refl
 
 own-owners : (cfg : Config) (who : Who) (part : BoxPart) (m : Shared) (th : ThreadState) (i : Instr)
@@ -234,10 +234,10 @@ own-owners : (cfg : Config) (who : Who) (part : BoxPart) (m : Shared) (th : Thre
 own-owners cfg who part m th i (Some row) access is = keeps m (by_itself m row) (Some i) refl
 own-owners cfg who part m th i None (Some access) is =
     subst (λ (a : Option Access). KeepsOwners m (shared_row cfg who part m th i a).shared (Some i) (shared_row cfg who part m th i a).reply) is
-        (keeps m (access_row cfg who.home.0 m th access) (Some i) (access-owners cfg who.home.0 m th access))
+    (keeps m (access_row cfg who.home.0 m th access) (Some i) (access-owners cfg who.home.0 m th access))
 own-owners cfg who part m th i None None is =
     subst (λ (a : Option Access). KeepsOwners m (shared_row cfg who part m th i a).shared (Some i) (shared_row cfg who part m th i a).reply) is
-        (kernel-owners cfg who part m th i)
+    (kernel-owners cfg who part m th i)
 
 instruction-owners : (cfg : Config) (who : Who) (part : BoxPart) (m : Shared) (th : ThreadState) (i : Option Instr) →
     KeepsOwners m (instruction_row cfg who part m th i).shared i (instruction_row cfg who part m th i).reply
@@ -251,10 +251,10 @@ look-owners : (who : Who) (m : Shared) (th : ThreadState) (awaited : Awaited) (v
 look-owners who m th awaited (Some value) = refl
 look-owners who m th awaited None = by_looks (nat_eq (awaited.looks - 1) 0)
   where
-  by_looks : (b : Bool) → (cond {A = Outcome} b (record { shared = m; thread = timed_out th awaited.seq; reply = reply.Status 1 })
-      (record { shared = m; thread = looking th awaited.seq (awaited.looks - 1); reply = reply.Waiting })).shared.owners ≡ m.owners
-  by_looks true = refl
-  by_looks false = refl
+    by_looks : (b : Bool) → (cond {A = Outcome} b (record { shared = m; thread = timed_out th awaited.seq; reply = reply.Status 1 })
+        (record { shared = m; thread = looking th awaited.seq (awaited.looks - 1); reply = reply.Waiting })).shared.owners ≡ m.owners
+    by_looks true = refl
+    by_looks false = refl
 
 waiting-owners : (who : Who) (m : Shared) (th : ThreadState) (awaited : Option Awaited) → (waiting_row who m th awaited).shared.owners ≡ m.owners
 waiting-owners who m th None = refl
@@ -262,7 +262,7 @@ waiting-owners who m th (Some awaited) = look-owners who m th awaited (result_of
 
 ready-owners : (cfg : Config) (who : Who) (part : BoxPart) (thread : ThreadPart) (m : Shared) (th : ThreadState) (due : Option IrqPart) →
     KeepsOwners m (ready_row cfg who part thread m th due).shared (cond (is_none due) (slice_get thread.program th.pc) None)
-        (ready_row cfg who part thread m th due).reply
+    (ready_row cfg who part thread m th due).reply
 ready-owners cfg who part thread m th (Some irq) = keeps m (ready_row cfg who part thread m th (Some irq)) None refl
 ready-owners cfg who part thread m th None = instruction-owners cfg who part m th (slice_get thread.program th.pc)
 
@@ -271,15 +271,15 @@ pub turn-owners : (cfg : Config) (who : Who) (part : BoxPart) (thread : ThreadPa
     KeepsOwners m (turn_row cfg who part thread m th).shared (next_instruction part thread m th who.thread.0) (turn_row cfg who part thread m th).reply
 turn-owners cfg who part thread m th home = by_mode th.mode
   where
-  by_mode : (s : Mode) → KeepsOwners m (turn_row cfg who part thread m (record th { mode = s })).shared
-      (next_instruction part thread m (record th { mode = s }) who.thread.0) (turn_row cfg who part thread m (record th { mode = s })).reply
-  by_mode mode.Ready =
-      subst (λ (b : BoxId). KeepsOwners m (turn_row cfg who part thread m (record th { mode = mode.Ready })).shared
-          (cond (is_none (due_interrupt m.lines part b.0 who.thread.0)) (slice_get thread.program th.pc) None)
-          (turn_row cfg who part thread m (record th { mode = mode.Ready })).reply) home
-          (ready-owners cfg who part thread m (counted (record th { mode = mode.Ready })) (due_interrupt m.lines part who.home.0 who.thread.0))
-  by_mode mode.Waiting = keeps m (turn_row cfg who part thread m (record th { mode = mode.Waiting })) None
-      (waiting-owners who m (counted (record th { mode = mode.Waiting })) th.awaited)
-  by_mode mode.Halted = keeps m (turn_row cfg who part thread m (record th { mode = mode.Halted })) None refl
-  by_mode mode.Faulted = keeps m (turn_row cfg who part thread m (record th { mode = mode.Faulted })) None refl
-  by_mode mode.Spent = keeps m (turn_row cfg who part thread m (record th { mode = mode.Spent })) None refl
+    by_mode : (s : Mode) → KeepsOwners m (turn_row cfg who part thread m (record th { mode = s })).shared
+        (next_instruction part thread m (record th { mode = s }) who.thread.0) (turn_row cfg who part thread m (record th { mode = s })).reply
+    by_mode mode.Ready =
+        subst (λ (b : BoxId). KeepsOwners m (turn_row cfg who part thread m (record th { mode = mode.Ready })).shared
+        (cond (is_none (due_interrupt m.lines part b.0 who.thread.0)) (slice_get thread.program th.pc) None)
+        (turn_row cfg who part thread m (record th { mode = mode.Ready })).reply) home
+        (ready-owners cfg who part thread m (counted (record th { mode = mode.Ready })) (due_interrupt m.lines part who.home.0 who.thread.0))
+    by_mode mode.Waiting = keeps m (turn_row cfg who part thread m (record th { mode = mode.Waiting })) None
+        (waiting-owners who m (counted (record th { mode = mode.Waiting })) th.awaited)
+    by_mode mode.Halted = keeps m (turn_row cfg who part thread m (record th { mode = mode.Halted })) None refl
+    by_mode mode.Faulted = keeps m (turn_row cfg who part thread m (record th { mode = mode.Faulted })) None refl
+    by_mode mode.Spent = keeps m (turn_row cfg who part thread m (record th { mode = mode.Spent })) None refl
