@@ -1,6 +1,6 @@
 -- What a machine keeps at its start and at each step, and what its log then is.
 use Rattle.std.proofs.Common.{◌≡◌, ℕ, zero, suc, ◌+◌, ◌-◌, ◌*◌, ◌<◌, ◌≤◌, Bool, true, false, cond, Option, Some, None, List, [], ◌∷◌, ◌++◌, map, replicate, refl, sym, ap, ◌∙◌, subst, length, arith, sum_by}
-use Rattle.std.specs.List.{slice_get}
+use Rattle.std.specs.List.{list_all, slice_get}
 use Rattle.std.proofs.lemmas.List.Sums.{sum_by-cons}
 use Rattle.std.proofs.lemmas.List.{length-replicate}
 use Rattle.addr_base.specs.declared.identity.ThreadId.{ThreadId}
@@ -14,7 +14,7 @@ use Rattle.flat_model.specs.declared.parts.Config.{Config}
 use Rattle.flat_model.specs.declared.parts.ThreadPart.{ThreadPart}
 use Rattle.flat_model.specs.declared.states.Flat.{Flat}
 use Rattle.flat_model.specs.declared.states.ThreadState.{ThreadState}
-use Rattle.flat_model.specs.Legal.{IsFlatRun, IsUnitRun}
+use Rattle.flat_model.specs.Legal.{IsFlatRun, IsLegal, IsUnitRun, is_agreed}
 use Rattle.flat_model.specs.Log.{Event, choices_of, ends_with_entry, events_of, replies_of}
 use Rattle.flat_model.specs.OneLog.{entries_of_run, log_of_choices, woven_items}
 use Rattle.flat_model.specs.Run.{ends_of, opening_state, state_after_all}
@@ -26,6 +26,7 @@ use Rattle.flat_model.specs.Thread.{has_ended, opening_thread}
 use Rattle.flat_model.specs.Today.{RunsToday}
 use Rattle.flat_model.specs.Trace.{World, event_items, opening_world, trace_of, world_after, world_reached}
 use Rattle.flat_model.specs.UnitRun.{UnitState, lines_of_run, opening_unit}
+use Rattle.flat_model.proofs.Agreement.{IsWorldReady-opening, trace-agrees}
 use Rattle.flat_model.proofs.Elements.{each-get}
 use Rattle.flat_model.proofs.KeptSteps.{get-replicate}
 use Rattle.flat_model.proofs.TraceLemmas.{ends_with_entry-trace, flat_after_all, lines_of-trace, replies_of-trace, trace_of-woven}
@@ -120,7 +121,7 @@ module _ (cfg : Config) (drive : Drive) (extra : ℕ) (items : List Logged) (w :
   ends-kept = ap (λ (v : World). ends_of v.flat) kept.world ∙ ap ends_of (flat_after_all cfg (opening_world cfg) (choices_of items))
 
   -- the log is a run of the flat machine
-  pub flat-kept : IsFlatRun cfg (record { items = items; ends = ends_of w.flat })
+  flat-kept : IsFlatRun cfg (record { items = items; ends = ends_of w.flat })
   flat-kept = record {
     fitting = kept.fitting;
     replies = ap replies_of kept.traced ∙ replies_of-trace cfg (opening_world cfg) (choices_of items);
@@ -128,12 +129,21 @@ module _ (cfg : Config) (drive : Drive) (extra : ℕ) (items : List Logged) (w :
   }
 
   -- the log is a run of the unit
-  pub unit-kept : IsUnitRun cfg (record { items = items; ends = ends_of w.flat })
+  unit-kept : IsUnitRun cfg (record { items = items; ends = ends_of w.flat })
   unit-kept = record {
     lines = ap (λ xs. map (λ (event : Event). event.lines) (events_of xs)) kept.traced
         ∙ lines_of-trace cfg (opening_world cfg) (choices_of items);
     closed = ap ends_with_entry kept.traced ∙ ends_with_entry-trace cfg (opening_world cfg) (choices_of items);
   }
+
+  -- the log is legal
+  pub legal-kept : IsLegal cfg (record { items = items; ends = ends_of w.flat })
+  legal-kept = record {
+      flat = flat-kept;
+      unit = unit-kept;
+      agree = ap (λ xs. list_all is_agreed (events_of xs)) kept.traced
+          ∙ trace-agrees cfg (opening_world cfg) (choices_of items) kept.sound (IsWorldReady-opening cfg);
+    }
 
   -- the log is the one log of its choices
   pub one-kept : record { items = items; ends = ends_of w.flat } ≡ log_of_choices cfg (choices_of items)

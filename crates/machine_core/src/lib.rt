@@ -4,5 +4,7 @@
 mod machine;
 mod protection;
 mod record;
+#[cfg(test)]
+mod tests;
 
 pub use machine::Machine;

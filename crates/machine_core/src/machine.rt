@@ -1,7 +1,7 @@
 ghost use Rattle.std.specs.Prelude.{◌≡◌, ℕ, ◌+◌, ◌-◌, ◌*◌, ◌^◌, ◌<◌, ◌≤◌, true, false, [], ◌++◌, IfOk, length, map, slice_get, sum_by, vec_capacity, if◌then◌else◌};
 ghost use Rattle.std.specs.Option.{option_map_or};
 ghost use Rattle.flat_model.specs.declared.events.Drive.TheVariants as drive_words;
-ghost use Rattle.flat_model.specs.Legal.{IsFlatRun, IsUnitRun};
+ghost use Rattle.flat_model.specs.Legal.{IsLegal};
 ghost use Rattle.flat_model.specs.Log.{choices_of};
 ghost use Rattle.flat_model.specs.OneLog.{log_of_choices};
 ghost use Rattle.flat_model.specs.Run.{end_of_thread, ends_of};
@@ -185,8 +185,7 @@ impl Machine {
         ensures config { result.0 ≡ self.config }
         ensures items { result.1.items ≡ self.items }
         ensures exact { result.1 ≡ log_of_choices self.config (choices_of self.items) }
-        ensures flat { IsFlatRun self.config result.1 }
-        ensures unit { IsUnitRun self.config result.1 }
+        ensures legal { IsLegal self.config result.1 }
     {
         let Machine {
             config,

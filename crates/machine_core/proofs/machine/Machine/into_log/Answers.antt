@@ -1,12 +1,12 @@
 use Rattle.std.proofs.Common.{◌≡◌, ◌∙◌, ap, map, subst, sym}
 use Rattle.std.specs.Prelude.{vec_capacity}
 use Rattle.flat_model.specs.declared.logs.Log.{Log}
-use Rattle.flat_model.specs.Legal.{IsFlatRun, IsUnitRun}
+use Rattle.flat_model.specs.Legal.{IsLegal}
 use Rattle.flat_model.specs.Log.{choices_of}
 use Rattle.flat_model.specs.OneLog.{log_of_choices}
 use Rattle.flat_model.specs.Run.{end_of_thread, ends_of}
 use Rattle.machine_core.specs.View.{MachineView}
-use Rattle.machine_core.proofs.MachineLemmas.{flat-kept, one-kept, unit-kept}
+use Rattle.machine_core.proofs.MachineLemmas.{legal-kept, one-kept}
 use Rattle.machine_core.proofs.machine.Machine.into_log.Goals as goal
 use Rattle.machine_core.proofs.machine.Machine.into_log.Goals.{After-from_vec-2}
 
@@ -25,16 +25,9 @@ returns-clause-exact c =
     ∙ one-kept m.config m.drive m.extra m.items.items (record { flat = m.flat; unit = m.unit }) (vec_capacity m.items) c.self.invariant.0
     ∙ ap (λ (v : MachineView). log_of_choices v.config (choices_of v.items)) c.self.view_is
 
-pub returns-clause-flat : goal.returns-clause-flat
-returns-clause-flat c =
+pub returns-clause-legal : goal.returns-clause-legal
+returns-clause-legal c =
     let m = c.self.inside in
-    subst (IsFlatRun c.args.self.config) (sym (log_is (goal.at.returns-clause-flat c).After-from_vec-2))
-    (subst (λ (v : MachineView). IsFlatRun v.config (record { items = m.items.items; ends = ends_of m.flat })) c.self.view_is
-    (flat-kept m.config m.drive m.extra m.items.items (record { flat = m.flat; unit = m.unit }) (vec_capacity m.items) c.self.invariant.0))
-
-pub returns-clause-unit : goal.returns-clause-unit
-returns-clause-unit c =
-    let m = c.self.inside in
-    subst (IsUnitRun c.args.self.config) (sym (log_is (goal.at.returns-clause-unit c).After-from_vec-2))
-    (subst (λ (v : MachineView). IsUnitRun v.config (record { items = m.items.items; ends = ends_of m.flat })) c.self.view_is
-    (unit-kept m.config m.drive m.extra m.items.items (record { flat = m.flat; unit = m.unit }) (vec_capacity m.items) c.self.invariant.0))
+    subst (IsLegal c.args.self.config) (sym (log_is (goal.at.returns-clause-legal c).After-from_vec-2))
+        (subst (λ (v : MachineView). IsLegal v.config (record { items = m.items.items; ends = ends_of m.flat })) c.self.view_is
+            (legal-kept m.config m.drive m.extra m.items.items (record { flat = m.flat; unit = m.unit }) (vec_capacity m.items) c.self.invariant.0))
