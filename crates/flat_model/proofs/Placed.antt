@@ -80,7 +80,7 @@ IsOneBlock-from range power enough limit whole =
       whole = subst (λ n. range.base % n ≡ 0) power.1 whole;
     }
 
-IsPage-from : (page : ℕ) → IsPowerOfTwo page → 32 ≤ page → page ≤ 65536 → IsPage page
+pub IsPage-from : (page : ℕ) → IsPowerOfTwo page → 32 ≤ page → page ≤ 65536 → IsPage page
 IsPage-from page power low high =
     let more : 4 < power.0 = smaller 4 power.0 (omega (arith, power.1)) in
     let less : power.0 < 17 = smaller power.0 17 (omega (arith, power.1)) in
@@ -124,13 +124,13 @@ limit_from board (Some h) is it = record {
   heap_low = rw is refl;
 }
 
-reads_of : (rights : Rights) → sound.IsGrantRights rights → may_read rights ≡ true
+pub reads_of : (rights : Rights) → sound.IsGrantRights rights → may_read rights ≡ true
 reads_of rights (inl r) = ap may_read r
 reads_of rights (inr (inl rw_)) = ap may_read rw_
 reads_of rights (inr (inr (inl rx))) = ap may_read rx
 reads_of rights (inr (inr (inr all))) = ap may_read all
 
-IsTiled-from : (range : Range) → sound.IsTiledRange range → end_of range < 2 ^ 32 → IsTiled range
+pub IsTiled-from : (range : Range) → sound.IsTiledRange range → end_of range < 2 ^ 32 → IsTiled range
 IsTiled-from range it limit = record { base_whole = it.base; len_whole = it.len; limit = limit }
 
 IsGrouped-from : (sram : Range) (h : HeapPart) → sound.IsHeap sram h → IsGrouped h
