@@ -1,4 +1,4 @@
-ghost use Rattle.std.specs.Prelude.{◌≡◌, ℕ, ◌+◌, ◌×◌, ◌<◌, Some, not, length, is_some, option_map, IfOk, IfSome, IsSome};
+ghost use Rattle.std.specs.Prelude.{◌≡◌, ℕ, ◌+◌, ◌<◌, Some, true, not, length, is_some, option_map, IfOk, IfSome, IsSome};
 ghost use Rattle.std.specs.List.{slice_get};
 ghost use Rattle.addr_base.specs.declared.identity.BoxId.{BoxId};
 ghost use Rattle.addr_base.specs.declared.pairs.Verdict.TheVariants.{Denied};
@@ -58,10 +58,12 @@ fn serving(
     requires owners { IfSome heap (λ h. length owners.now ≡ h.count) }
     ensures { result ≡ first_serving a kind (plan_at heap home.now b.0 owners.now) }
 {
-    let by_grant = first_of(home.grants.as_slice(), a, kind);
-    match (by_grant, heap) {
-        (None, Some(heap)) => first_page_group(heap, owners, b, a, kind),
-        _ => by_grant,
+    if let Some(pair) = first_of(home.grants.as_slice(), a, kind) {
+        return Some(pair);
+    }
+    match heap {
+        Some(heap) => first_page_group(heap, owners, b, a, kind),
+        None => None,
     }
 }
 
@@ -143,7 +145,9 @@ impl Rotator {
     {
         let b = self.last.unwrap();
         let home = &self.homes[usize::from(b.0)];
-        let pair = serving(home, self.heap, owners.as_slice(), b, a, kind)?;
+        let Some(pair) = serving(home, self.heap, owners.as_slice(), b, a, kind) else {
+            return None;
+        };
         let slot = self.circle;
         load(&mut self.unit, slot, pair);
         self.circle = next_of(slot);
