@@ -1,4 +1,5 @@
-ghost use Rattle.std.specs.Prelude.{◌≡◌, ℕ, ◌+◌, ◌<◌, Some, true, not, length, is_some, option_map, IfOk, IfSome, IsSome};
+ghost use Rattle.std.specs.Prelude.{◌≡◌, ℕ, ◌+◌, ◌<◌, Some, true, not, length, is_some, option_map, IfNone, IfOk, IfSome, IsSome};
+ghost use Rattle.std.specs.Bool.{OnFalse};
 ghost use Rattle.std.specs.List.{slice_get};
 ghost use Rattle.addr_base.specs.declared.identity.BoxId.{BoxId};
 ghost use Rattle.addr_base.specs.declared.pairs.Verdict.TheVariants.{Denied};
@@ -90,11 +91,16 @@ impl Rotator {
         requires { b.0 < length self.old.homes }
 
         ensures switched { result ≡ not (is_last self.old.unit.last b.0) }
+        ensures last { self.new.unit.last ≡ Some b }
 
+        // For a box of the configuration that the rotator was made of:
         ensures run { (cfg : Config) (part : BoxPart) (unit : UnitState)
             → self.old ≡ rotation_of cfg unit
             → slice_get cfg.boxes b.0 ≡ Some part
             → self.new ≡ rotation_of cfg (entered cfg part unit b) }
+
+        ensures unchanged { OnFalse result (self.new ≡ self.old) }
+        ensures others { self.new ≡ record self.old { unit = self.new.unit } }
     {
         if self.last == Some(b) {
             return false;
@@ -142,6 +148,10 @@ impl Rotator {
             → IsSound cfg
             → is_granted (decision self.new.unit.pairs a kind)
             ≡ may_access cfg owners.now.items b.0 a 1 kind }
+
+        ensures none { IfNone result (self.new ≡ self.old) }
+        ensures last { self.new.unit.last ≡ self.old.unit.last }
+        ensures others { self.new ≡ record self.old { unit = self.new.unit } }
     {
         let b = self.last.unwrap();
         let home = &self.homes[usize::from(b.0)];
