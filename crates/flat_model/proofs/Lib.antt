@@ -24,6 +24,7 @@ pub mod PagePairs
 pub mod Pieces
 pub mod Placed
 pub mod Powers
+pub mod Recovered
 pub mod Recovery
 pub mod Suited
 pub mod TodayLemmas

@@ -1,0 +1,4 @@
+pub mod Groups
+pub mod Homes
+pub mod Serving
+pub mod Turns

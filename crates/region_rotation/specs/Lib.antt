@@ -1,0 +1,3 @@
+pub mod Coverable
+pub mod Ready
+pub mod Rotation
