@@ -553,3 +553,13 @@ trace-agrees cfg w (c ∷ cs) sound ready =
     (list_all is_agreed (events_of (trace_of cfg (world_after cfg w c) cs)))
     (lines-agree cfg w.flat w.unit c sound ready)
     (trace-agrees cfg (world_after cfg w c) cs sound (ready-world cfg w c ready))
+
+ready-all : (cfg : Config) (w : World) (cs : List Choice) → IsWorldReady cfg w.flat w.unit →
+    IsWorldReady cfg (world_after_all cfg w cs).flat (world_after_all cfg w cs).unit
+ready-all cfg w [] ready = ready
+ready-all cfg w (c ∷ cs) ready = ready-all cfg (world_after cfg w c) cs (ready-world cfg w c ready)
+
+-- every world reached is ready
+pub IsWorldReady-reached : (cfg : Config) (cs : List Choice) →
+    IsWorldReady cfg (world_after_all cfg (opening_world cfg) cs).flat (world_after_all cfg (opening_world cfg) cs).unit
+IsWorldReady-reached cfg cs = ready-all cfg (opening_world cfg) cs (IsWorldReady-opening cfg)

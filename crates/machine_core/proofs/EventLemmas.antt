@@ -1,4 +1,4 @@
--- What a turn is for the unit where nothing rotates in and no page is called for.
+-- What a turn is for the unit where no page is called for.
 use Rattle.std.proofs.Common.{◌≡◌, ℕ, zero, suc, ◌+◌, ◌≤◌, Bool, true, false, ◌&&◌, cond, Option, Some, None, List, [], ◌∷◌, ◌++◌, map, refl, sym, ap, ◌∙◌, subst, length, arith, append_assoc, append-nil, ◌<◌}
 use Rattle.std.specs.List.{AllByRecursion, slice_get}
 use Rattle.std.specs.Prelude.{is_none}
@@ -13,6 +13,7 @@ use Rattle.flat_model.specs.declared.events.Logged.{Logged}
 use Rattle.flat_model.specs.declared.events.Logged.TheVariants as item
 use Rattle.flat_model.specs.declared.events.Reply.{Reply}
 use Rattle.flat_model.specs.declared.events.UnitLine.{UnitLine}
+use Rattle.flat_model.specs.declared.events.UnitLine.TheVariants as line
 use Rattle.flat_model.specs.declared.instructions.Instr.{Instr}
 use Rattle.flat_model.specs.declared.instructions.Instr.TheVariants as instr
 use Rattle.flat_model.specs.declared.parts.BoxPart.{BoxPart}
@@ -21,25 +22,20 @@ use Rattle.flat_model.specs.declared.parts.ThreadPart.{ThreadPart}
 use Rattle.flat_model.specs.declared.states.Flat.{Flat}
 use Rattle.flat_model.specs.declared.states.ThreadState.{ThreadState}
 use Rattle.flat_model.specs.Decision.{decision, is_granted}
+use Rattle.addr_base.specs.declared.pairs.Rotated.{Rotated}
+use Rattle.addr_base.specs.declared.pairs.Verdict.TheVariants.{Granted, Denied}
+use Rattle.std.specs.Option.{option_map}
 use Rattle.flat_model.specs.Interrupts.{due_interrupt}
-use Rattle.flat_model.specs.Plan.{plan_of}
+use Rattle.flat_model.specs.Plan.{first_serving, plan_of}
 use Rattle.flat_model.specs.Step.{empties_slots, instruction_in, is_page_call, is_status, pages_at, reply_to, step, touch_at, touch_of}
 use Rattle.flat_model.specs.Thread.{has_ended, is_ready}
 use Rattle.flat_model.specs.Today.{RunsToday, is_run_today, runs_today, thread_runs_today}
 use Rattle.flat_model.specs.Trace.{World, event_items, world_after}
-use Rattle.flat_model.specs.UnitRun.{UnitState, access_lines, acting_box, lines_of_box, lines_of_event, part_at, rotating_pair, switch_lines, unit_after, unit_after_box, unit_after_event, unit_lines}
+use Rattle.flat_model.specs.UnitRun.{UnitState, access_lines, acting_box, lines_of_box, lines_of_event, part_at, rotate_lines, rotating_pair, switch_lines, unit_after, unit_after_box, unit_after_event, unit_lines}
 use Rattle.flat_model.specs.Want.{next_instruction}
 use Rattle.flat_model.proofs.Elements.{each-get}
 use Rattle.flat_model.proofs.TodayLemmas.{list_all-get}
 use Rattle.flat_model.proofs.WantLemmas.{next-today}
-use Rattle.machine_core.specs.Kept.{HasNoPlan}
-
--- nothing rotates in
-pub plan-none : (cfg : Config) (owners : List (Option BoxId)) (b : ℕ) (part : BoxPart) → HasNoPlan cfg →
-    slice_get cfg.boxes b ≡ Some part → plan_of cfg owners b part ≡ []
-plan-none cfg owners b part none at =
-    let grants : part.grants ≡ [] = each-get (λ (p : BoxPart). p.grants ≡ []) cfg.boxes b part none.grants at in
-    rw (grants, none.heap) refl
 
 page_call-today : (i : Option Instr) → runs_today i ≡ true → is_page_call i ≡ false
 page_call-today None today = refl
@@ -102,40 +98,28 @@ after-nowhere cfg f u t b acting none =
     ∙ ap (λ part. unit_after_box cfg f u (choice.Turn t true) (Some b) part) none
 
 module _ (cfg : Config) (f : Flat) (u : UnitState) (t : ThreadId) (b : BoxId) (part : BoxPart)
-    (today : RunsToday cfg) (no_plan : HasNoPlan cfg)
+    (today : RunsToday cfg)
     (acting : acting_box (slice_get cfg.threads t.0) (slice_get f.threads t.0) ≡ Some b)
     (at : slice_get cfg.boxes b.0 ≡ Some part) where
   -- the unit's lines of a turn of a box
   pub lines-box : unit_lines cfg f u (choice.Turn t true)
-      ≡ lines_of_event cfg b part [] u (touch_at cfg f t.0 (slice_get cfg.threads t.0) (slice_get f.threads t.0)) false
+      ≡ lines_of_event cfg b part (plan_of cfg f.shared.owners b.0 part) u (touch_at cfg f t.0 (slice_get cfg.threads t.0) (slice_get f.threads t.0)) false
   unfolding unit_lines
   lines-box =
       ap (λ b. lines_of_box cfg f u (choice.Turn t true) b (part_at cfg b)) acting
       ∙ ap (λ part. lines_of_box cfg f u (choice.Turn t true) (Some b) part) at
-      ∙ ap (λ plan. lines_of_event cfg b part plan u (touch_of cfg f (choice.Turn t true)) (empties_slots cfg f (choice.Turn t true)))
-      (plan-none cfg f.shared.owners b.0 part no_plan at)
-      ∙ ap (λ empties. lines_of_event cfg b part [] u (touch_of cfg f (choice.Turn t true)) empties) (empties-none cfg f t today)
-      ∙ ap (λ access. lines_of_event cfg b part [] u access false) (touch-turn cfg f t)
+      ∙ ap (λ empties. lines_of_event cfg b part (plan_of cfg f.shared.owners b.0 part) u (touch_of cfg f (choice.Turn t true)) empties) (empties-none cfg f t today)
+      ∙ ap (λ access. lines_of_event cfg b part (plan_of cfg f.shared.owners b.0 part) u access false) (touch-turn cfg f t)
 
   -- the unit after a turn of a box
   pub after-box : unit_after cfg f u (choice.Turn t true)
-      ≡ unit_after_event cfg b part [] u (touch_at cfg f t.0 (slice_get cfg.threads t.0) (slice_get f.threads t.0)) false
+      ≡ unit_after_event cfg b part (plan_of cfg f.shared.owners b.0 part) u (touch_at cfg f t.0 (slice_get cfg.threads t.0) (slice_get f.threads t.0)) false
   unfolding unit_after
   after-box =
       ap (λ b. unit_after_box cfg f u (choice.Turn t true) b (part_at cfg b)) acting
       ∙ ap (λ part. unit_after_box cfg f u (choice.Turn t true) (Some b) part) at
-      ∙ ap (λ plan. unit_after_event cfg b part plan u (touch_of cfg f (choice.Turn t true)) (empties_slots cfg f (choice.Turn t true)))
-      (plan-none cfg f.shared.owners b.0 part no_plan at)
-      ∙ ap (λ empties. unit_after_event cfg b part [] u (touch_of cfg f (choice.Turn t true)) empties) (empties-none cfg f t today)
-      ∙ ap (λ access. unit_after_event cfg b part [] u access false) (touch-turn cfg f t)
-
--- no pair rotates in from an empty plan
-pub rotating-none : (u : UnitState) (access : Access) → rotating_pair [] u access ≡ None
-rotating-none u access = by_verdict (is_granted (decision u.pairs access.at access.kind))
-  where
-    by_verdict : (b : Bool) → cond {A = Option Pair} b None None ≡ None
-    by_verdict true = refl
-    by_verdict false = refl
+      ∙ ap (λ empties. unit_after_event cfg b part (plan_of cfg f.shared.owners b.0 part) u (touch_of cfg f (choice.Turn t true)) empties) (empties-none cfg f t today)
+      ∙ ap (λ access. unit_after_event cfg b part (plan_of cfg f.shared.owners b.0 part) u access false) (touch-turn cfg f t)
 
 -- an event is its unit's lines and one entry
 pub event-length : (cfg : Config) (w : World) (c : Choice) → length (event_items cfg w c) ≡ length (unit_lines cfg w.flat w.unit c) + 1
@@ -172,3 +156,59 @@ event-made cfg w c items mid all r one two same =
     two ∙ ap (λ xs. xs ++ item.Core (record { choice = c; reply = r }) ∷ []) one
     ∙ append_assoc items (map item.Unit (unit_lines cfg w.flat w.unit c)) (item.Core (record { choice = c; reply = r }) ∷ [])
     ∙ ap (λ s. items ++ (map item.Unit (unit_lines cfg w.flat w.unit c) ++ item.Core (record { choice = c; reply = s }) ∷ [])) (sym same)
+
+-- ---- rotations
+
+-- where the unit grants an access nothing rotates in
+pub rotating-granted : (plan : List Pair) (u : UnitState) (access : Access) (slot : ℕ) →
+    decision u.pairs access.at access.kind ≡ Granted slot → rotating_pair plan u access ≡ None
+rotating-granted plan u access slot is = rw is refl
+
+-- where it denies an access the first pair of the plan that serves it rotates in
+pub rotating-denied : (plan : List Pair) (u : UnitState) (access : Access) →
+    decision u.pairs access.at access.kind ≡ Denied → rotating_pair plan u access ≡ first_serving access.at access.kind plan
+rotating-denied plan u access is = rw is refl
+
+-- a pair with its slot
+abbrev pub rotated_pair : ℕ → Pair → Rotated
+rotated_pair slot pair = record { slot = slot; pair = pair }
+
+-- a recovery that answers nothing had no pair
+pub recovered-none : (slot : ℕ) (pair : Option Pair) → None ≡ option_map (λ (p : Pair). rotated_pair slot p) pair → pair ≡ None
+recovered-none slot None is = refl
+recovered-none slot (Some p) is = absurd (let e : None ≡ Some (rotated_pair slot p) = is in cc)
+
+-- a recovery that answers has loaded its pair into the circle's slot
+pub recovered-some : (slot : ℕ) (pair : Option Pair) (r : Rotated) → Some r ≡ option_map (λ (p : Pair). rotated_pair slot p) pair →
+    (pair ≡ Some r.pair) × (r.slot ≡ slot)
+recovered-some slot None r is = absurd (let e : Some r ≡ None = is in cc)
+recovered-some slot (Some p) r is =
+    let same : r ≡ rotated_pair slot p = cc in
+    (ap (λ (x : Rotated). Some x.pair) (sym same), ap (λ (x : Rotated). x.slot) same)
+
+-- the unit's line of a rotation
+pub rotate-line : (u : UnitState) (pair : Option Pair) (r : Rotated) → pair ≡ Some r.pair → r.slot ≡ u.circle →
+    rotate_lines u pair ≡ line.Rotate r.slot r.pair ∷ []
+rotate-line u pair r is slot = ap (rotate_lines u) is ∙ ap (λ n. line.Rotate n r.pair ∷ []) (sym slot)
+
+module _ (cfg : Config) (owners read : List (Option BoxId)) (b : ℕ) (part : BoxPart) (u : UnitState) (access : Access)
+    (denied : decision u.pairs access.at access.kind ≡ Denied) (same : read ≡ owners) where
+
+  rotating-read : rotating_pair (plan_of cfg owners b part) u access ≡ first_serving access.at access.kind (plan_of cfg read b part)
+  rotating-read =
+      rotating-denied (plan_of cfg owners b part) u access denied
+      ∙ ap (λ o. first_serving access.at access.kind (plan_of cfg o b part)) (sym same)
+
+  -- the line of a recovery
+  pub rotation-line : (r : Rotated) →
+      Some r ≡ option_map (λ (p : Pair). rotated_pair u.circle p) (first_serving access.at access.kind (plan_of cfg read b part)) →
+      rotate_lines u (rotating_pair (plan_of cfg owners b part) u access) ≡ line.Rotate r.slot r.pair ∷ []
+  rotation-line r is =
+      let some = recovered-some u.circle (first_serving access.at access.kind (plan_of cfg read b part)) r is in
+      rotate-line u (rotating_pair (plan_of cfg owners b part) u access) r (rotating-read ∙ some.0) some.1
+
+  -- without a recovery there is no line
+  pub rotation-none : None ≡ option_map (λ (p : Pair). rotated_pair u.circle p) (first_serving access.at access.kind (plan_of cfg read b part)) →
+      rotate_lines u (rotating_pair (plan_of cfg owners b part) u access) ≡ []
+  rotation-none is =
+      ap (rotate_lines u) (rotating-read ∙ recovered-none u.circle (first_serving access.at access.kind (plan_of cfg read b part)) is)

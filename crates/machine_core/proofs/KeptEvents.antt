@@ -8,6 +8,7 @@ use Rattle.std.proofs.lemmas.Option.{slice_get_within}
 use Rattle.std.proofs.lemmas.Bool.Decides.{nat_tests}
 use Rattle.addr_base.specs.declared.identity.BoxId.{BoxId}
 use Rattle.addr_base.specs.declared.identity.ThreadId.{ThreadId}
+use Rattle.addr_base.specs.declared.pairs.Pair.{Pair}
 use Rattle.flat_model.specs.declared.accesses.Access.{Access}
 use Rattle.flat_model.specs.declared.actors.Who.{Who}
 use Rattle.flat_model.specs.declared.events.Choice.{Choice}
@@ -27,6 +28,7 @@ use Rattle.flat_model.specs.declared.states.Flat.{Flat}
 use Rattle.flat_model.specs.declared.states.ThreadState.{ThreadState}
 use Rattle.flat_model.specs.Legal.{all_fit}
 use Rattle.flat_model.specs.Log.{choices_of}
+use Rattle.flat_model.specs.Plan.{plan_of}
 use Rattle.flat_model.specs.Run.{opening_state, state_after_all}
 use Rattle.flat_model.specs.Sound.{IsSound}
 use Rattle.flat_model.specs.Step.{reply_to, step, touch_at, turn_at, turn_in}
@@ -36,16 +38,17 @@ use Rattle.flat_model.specs.Thread.{has_ended}
 use Rattle.flat_model.specs.Today.{RunsToday}
 use Rattle.flat_model.specs.Trace.{World, event_items, opening_world, trace_of, world_after, world_after_all, world_reached}
 use Rattle.flat_model.specs.Turn.{turn_row}
-use Rattle.flat_model.specs.UnitRun.{UnitState, access_lines, acting_box, entered, is_last, lines_of_event, switch_lines, unit_lines}
+use Rattle.flat_model.specs.UnitRun.{UnitState, access_line, access_lines, acting_box, entered, is_last, lines_of_event, rotate_lines, rotated, rotating_pair, switch_lines, unit_lines}
 use Rattle.flat_model.specs.Want.{fits, is_thread}
+use Rattle.flat_model.proofs.Agreement.{IsWorldReady-reached}
 use Rattle.flat_model.proofs.Budgets.{turn_row-within}
 use Rattle.flat_model.proofs.Elements.{slice_get_some}
 use Rattle.flat_model.proofs.KeptSteps.{can-step, get-slice_set, home-there, left-turn, steps_left-set}
 use Rattle.flat_model.proofs.TraceLemmas.{all_fit-append, choices_of-append, choices_of-event, flat_after_all, trace_of-append, world_after_all-append}
 use Rattle.flat_model.proofs.WantLemmas.{fits-turn, step-turn}
-use Rattle.machine_core.specs.Kept.{HasNoPlan, IsKept, events_beside}
+use Rattle.machine_core.specs.Kept.{HasOwners, IsKept, events_beside}
 use Rattle.machine_core.specs.View.{ended_in}
-use Rattle.machine_core.proofs.EventLemmas.{event-length, lines-box, lines-none, rotating-none}
+use Rattle.machine_core.proofs.EventLemmas.{event-length, lines-box, lines-none}
 
 -- ---- how long an event is
 
@@ -56,19 +59,24 @@ switch-short u b = by_last (is_last u.last b.0)
     by_last true = omega arith
     by_last false = omega arith
 
-access-short : (u : UnitState) (access : Option Access) → length (access_lines [] u access) ≤ 1
-access-short u None = omega arith
-access-short u (Some access) = rw (rotating-none u access) (omega arith)
+rotate-short : (u : UnitState) (pair : Option Pair) → length (rotate_lines u pair) ≤ 1
+rotate-short u None = omega arith
+rotate-short u (Some pair) = omega arith
 
-lines-short : (cfg : Config) (b : BoxId) (part : BoxPart) (u : UnitState) (access : Option Access) →
-    length (lines_of_event cfg b part [] u access false) ≤ 2
-lines-short cfg b part u access =
+access-short : (plan : List Pair) (u : UnitState) (access : Option Access) → length (access_lines plan u access) ≤ 2
+access-short plan u None = omega arith
+access-short plan u (Some access) =
+    let pair : Option Pair = rotating_pair plan u access in
+    let first = rotate-short u pair in
+    rw (length-append (rotate_lines u pair) (access_line (rotated u pair) access ∷ [])) (omega arith)
+
+lines-short : (cfg : Config) (b : BoxId) (part : BoxPart) (plan : List Pair) (u : UnitState) (access : Option Access) →
+    length (lines_of_event cfg b part plan u access false) ≤ 3
+lines-short cfg b part plan u access =
     let first = switch-short u b in
-    let second = access-short (entered cfg part u b) access in
-    rw (
-      append-nil (switch_lines u b ++ access_lines [] (entered cfg part u b) access),
-      length-append (switch_lines u b) (access_lines [] (entered cfg part u b) access),
-    ) (omega arith)
+    let second = access-short plan (entered cfg part u b) access in
+    rw (append-nil (switch_lines u b ++ access_lines plan (entered cfg part u b) access),
+        length-append (switch_lines u b) (access_lines plan (entered cfg part u b) access)) (omega arith)
 
 module _ (cfg : Config) (w : World) (t : ThreadId) (thread : ThreadPart) (th : ThreadState)
     (there : slice_get cfg.threads t.0 ≡ Some thread) (here : slice_get w.flat.threads t.0 ≡ Some th) where
@@ -81,14 +89,14 @@ module _ (cfg : Config) (w : World) (t : ThreadId) (thread : ThreadPart) (th : T
       event-length cfg w (choice.Turn t true)
       ∙ ap (λ (ls : List UnitLine). length ls + 1) (lines-none cfg w.flat w.unit t (acting-is ∙ ap (λ b. cond {A = Option BoxId} b None (Some thread.home)) ended))
 
-  pub event-live : (part : BoxPart) → RunsToday cfg → HasNoPlan cfg → slice_get cfg.boxes thread.home.0 ≡ Some part →
-      has_ended th ≡ false → length (event_items cfg w (choice.Turn t true)) ≤ 3
-  event-live part today no_plan at live =
-      let short = lines-short cfg thread.home part w.unit (touch_at cfg w.flat t.0 (slice_get cfg.threads t.0) (slice_get w.flat.threads t.0)) in
-      let is = lines-box cfg w.flat w.unit t thread.home part today no_plan (acting-is ∙ ap (λ b. cond {A = Option BoxId} b None (Some thread.home)) live) at in
+  pub event-live : (part : BoxPart) → RunsToday cfg → slice_get cfg.boxes thread.home.0 ≡ Some part →
+      has_ended th ≡ false → length (event_items cfg w (choice.Turn t true)) ≤ 4
+  event-live part today at live =
+      let short = lines-short cfg thread.home part (plan_of cfg w.flat.shared.owners thread.home.0 part) w.unit (touch_at cfg w.flat t.0 (slice_get cfg.threads t.0) (slice_get w.flat.threads t.0)) in
+      let is = lines-box cfg w.flat w.unit t thread.home part today (acting-is ∙ ap (λ b. cond {A = Option BoxId} b None (Some thread.home)) live) at in
       let long = event-length cfg w (choice.Turn t true) in
-      let same : length (unit_lines cfg w.flat w.unit (choice.Turn t true)) ≤ 2 =
-      subst (λ (ls : List UnitLine). length ls ≤ 2) (sym is) short in
+      let same : length (unit_lines cfg w.flat w.unit (choice.Turn t true)) ≤ 3 =
+      subst (λ (ls : List UnitLine). length ls ≤ 3) (sym is) short in
       omega arith
 
 -- ---- what a turn does to the threads
@@ -229,7 +237,7 @@ module _ (cfg : Config) (extra : ℕ) (items : List Logged) (w : World) (capacit
       let room = kept.room in
       omega arith
   room-turn thread th part there here home false live =
-      let short = event-live cfg w t thread th there here part kept.today kept.no_plan home live in
+      let short = event-live cfg w t thread th there here part kept.today home live in
       let steps = kept.budgets t.0 thread th there here live in
       let left = left-live cfg w t thread th part kept.sound kept.today there here home live steps in
       let room = kept.room in
@@ -241,6 +249,11 @@ module _ (cfg : Config) (extra : ℕ) (items : List Logged) (w : World) (capacit
       let x = threads_there in
       let all = room-turn x.0 x.1 x.2 x.3 x.4 x.5 (has_ended x.1) refl in
       omega arith
+
+  -- there is a place for the owner of each page
+  pub has_owners : HasOwners cfg.board.heap w.flat.shared.owners
+  has_owners = subst (λ (v : World). HasOwners cfg.board.heap v.flat.shared.owners) (sym kept.world)
+      (IsWorldReady-reached cfg (choices_of items)).owners
 
   -- the thread can step
   pub can_step : (th : ThreadState) → slice_get w.flat.threads t.0 ≡ Some th → CanStep th
@@ -268,7 +281,6 @@ module _ (cfg : Config) (extra : ℕ) (items : List Logged) (w : World) (capacit
       done x = record {
         sound = kept.sound;
         today = kept.today;
-        no_plan = kept.no_plan;
         traced = subst (λ v. items ++ event_items cfg v (choice.Turn t true)
             ≡ trace_of cfg (opening_world cfg) (choices_of (items ++ event_items cfg v (choice.Turn t true)))) (sym kept.world)
             (traced-more cfg items (choice.Turn t true) kept.traced);

@@ -31,7 +31,7 @@ use Rattle.flat_model.proofs.Elements.{each-get}
 use Rattle.flat_model.proofs.KeptSteps.{get-replicate}
 use Rattle.flat_model.proofs.TraceLemmas.{ends_with_entry-trace, flat_after_all, lines_of-trace, replies_of-trace, trace_of-woven}
 use Rattle.flat_model.proofs.WantLemmas.{choice-today}
-use Rattle.machine_core.specs.Kept.{HasNoPlan, IsKept, events_beside}
+use Rattle.machine_core.specs.Kept.{IsKept, events_beside}
 use Rattle.machine_core.proofs.KeptEvents.{kept-turn}
 use Rattle.machine_core.specs.View.{MachineView, ended_in, stepped, world_of}
 
@@ -58,16 +58,15 @@ budgets-opening cfg sound t thread th there here =
 
 -- a machine keeps its empty log at the start
 pub kept-boot : (cfg : Config) (drive : Drive) (extra : ℕ) (flat : Flat) (unit : UnitState) (items : List Logged) (capacity : ℕ) →
-    IsSound cfg → RunsToday cfg → HasNoPlan cfg → flat ≡ opening_state cfg → unit ≡ opening_unit → items ≡ [] →
+    IsSound cfg → RunsToday cfg → flat ≡ opening_state cfg → unit ≡ opening_unit → items ≡ [] →
     4 * sum_by (λ (thread : ThreadPart). thread.steps) cfg.threads + events_beside cfg drive extra ≤ capacity →
     IsKept cfg drive extra items (record { flat = flat; unit = unit }) capacity
-kept-boot cfg drive extra flat unit items capacity sound today no_plan flat_is unit_is none room =
+kept-boot cfg drive extra flat unit items capacity sound today flat_is unit_is none room =
     subst (λ xs. IsKept cfg drive extra xs (record { flat = flat; unit = unit }) capacity) (sym none)
     (subst (λ f. IsKept cfg drive extra [] (record { flat = f; unit = unit }) capacity) (sym flat_is)
     (subst (λ u. IsKept cfg drive extra [] (record { flat = opening_state cfg; unit = u }) capacity) (sym unit_is) (record {
       sound = sound;
       today = today;
-      no_plan = no_plan;
       traced = refl;
       world = refl;
       fitting = refl;

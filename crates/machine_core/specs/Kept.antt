@@ -1,6 +1,7 @@
 -- Inner: no public contract cites this. What a machine keeps of its parts.
-use Rattle.std.specs.Prelude.{◌≡◌, ℕ, ◌+◌, ◌*◌, ◌≤◌, true, List, [], None, length}
-use Rattle.std.specs.List.{AllByRecursion}
+use Rattle.std.specs.Prelude.{◌≡◌, ℕ, ◌+◌, ◌*◌, ◌≤◌, true, List, [], Option, IfSome, length}
+use Rattle.addr_base.specs.declared.identity.BoxId.{BoxId}
+use Rattle.flat_model.specs.declared.boards.HeapPart.{HeapPart}
 use Rattle.flat_model.specs.declared.events.Drive.{Drive}
 use Rattle.flat_model.specs.declared.events.Drive.TheVariants.{Script, Threads}
 use Rattle.flat_model.specs.declared.events.Logged.{Logged}
@@ -15,10 +16,9 @@ use Rattle.flat_model.specs.StepsLeft.{steps_left}
 use Rattle.flat_model.specs.Today.{RunsToday}
 use Rattle.flat_model.specs.Trace.{World, opening_world, trace_of, world_reached}
 
--- no box has a grant, and there is no page heap, so that nothing rotates in
-pub record HasNoPlan (cfg : Config) : Type 0 where
-  pub grants : AllByRecursion (λ part. part.grants ≡ []) cfg.boxes
-  pub heap : cfg.board.heap ≡ None
+-- there is a place for the owner of each page
+abbrev pub HasOwners : Option HeapPart → List (Option BoxId) → Type 0
+HasOwners heap owners = IfSome heap (λ h. length owners ≡ h.count)
 
 -- how many events may still come that are not steps of threads
 abbrev pub events_beside : Config → Drive → ℕ → ℕ
@@ -29,7 +29,6 @@ events_beside cfg Threads extra = extra * length cfg.devices
 pub record IsKept (cfg : Config) (drive : Drive) (extra : ℕ) (items : List Logged) (w : World) (capacity : ℕ) : Type 0 where
   pub sound : IsSound cfg
   pub today : RunsToday cfg
-  pub no_plan : HasNoPlan cfg
   pub traced : items ≡ trace_of cfg (opening_world cfg) (choices_of items)
   pub world : w ≡ world_reached cfg items
   pub fitting : all_fit cfg (opening_state cfg) (choices_of items) ≡ true

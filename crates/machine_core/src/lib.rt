@@ -2,7 +2,6 @@
 #![tactic(auto)]
 
 mod machine;
-mod protection;
 mod record;
 #[cfg(test)]
 mod tests;

@@ -8,15 +8,15 @@ ghost use Rattle.flat_model.specs.Run.{end_of_thread, ends_of};
 ghost use Rattle.flat_model.specs.Sound.{IsSound};
 ghost use Rattle.flat_model.specs.Thread as thread_words;
 ghost use Rattle.flat_model.specs.Today.{RunsToday};
-ghost use Rattle.machine_core.specs.Kept.{HasNoPlan, events_beside};
+ghost use Rattle.machine_core.specs.Kept.{events_beside};
 ghost use Rattle.machine_core.specs.View.{booted, ended_in, stepped, world_of};
 
-use crate::protection::Protection;
 use crate::record::record_turn;
 use flat_model::{
     Config, Drive, End, Flat, Items, Log, Logged, OutOfMemory, ThreadId, ThreadPart, ThreadState,
     has_ended, opening_state, thread_of,
 };
+use region_rotation::Rotator;
 use std::alloc::Global;
 use std::marker::Model;
 
@@ -28,21 +28,23 @@ pub struct Machine {
     drive: Drive,
     extra: u32,
     flat: Flat,
-    unit: Protection,
+    rotator: Rotator,
     items: Vec<Logged>,
     ends: Vec<End>,
 }
 
 impl Model for Machine {
-    ghost use Rattle.std.specs.Prelude.{vec_capacity};
+    ghost use Rattle.std.specs.Prelude.{◌≡◌, vec_capacity};
     ghost use Rattle.machine_core.specs.Kept.{HasEnds, IsKept};
     ghost use Rattle.machine_core.specs.View.{MachineView};
+    ghost use Rattle.region_rotation.specs.Rotation.{rotation_of};
 
     ghost Value = { MachineView };
 
     ghost view = { λ m. record { config = m.config; drive = m.drive; extra = m.extra; items = m.items.items } };
 
-    ghost invariant = { λ m. IsKept m.config m.drive m.extra m.items.items (record { flat = m.flat; unit = m.unit }) (vec_capacity m.items)
+    ghost invariant = { λ m. IsKept m.config m.drive m.extra m.items.items (record { flat = m.flat; unit = m.rotator.unit }) (vec_capacity m.items)
+            × (m.rotator ≡ rotation_of m.config m.rotator.unit)
         × HasEnds m.config m.ends.items (vec_capacity m.ends) };
 }
 
@@ -122,12 +124,12 @@ impl Machine {
     ) -> Result<Machine, OutOfMemory>
         requires sound { IsSound config }
         requires today { RunsToday config }
-        requires no_plan { HasNoPlan config }
         ensures { IfOk result (λ machine. machine ≡ booted config drive extra) }
     {
         let steps = total_steps(config.threads.as_slice());
         let room = 4 * steps + beside(&config, drive, extra);
         let flat = opening_state(alloc, &config)?;
+        let rotator = Rotator::new(alloc, &config)?;
         let items = Vec::with_capacity(alloc, room)?;
         let ends = Vec::with_capacity(alloc, config.threads.len())?;
         Ok(Machine {
@@ -135,7 +137,7 @@ impl Machine {
             drive,
             extra,
             flat,
-            unit: Protection::new(),
+            rotator,
             items,
             ends,
         })
@@ -173,7 +175,7 @@ impl Machine {
         record_turn(
             &self.config,
             &mut self.flat,
-            &mut self.unit,
+            &mut self.rotator,
             t,
             &mut self.items,
         );
@@ -192,7 +194,7 @@ impl Machine {
             drive: _,
             extra: _,
             flat,
-            unit: _,
+            rotator: _,
             items,
             mut ends,
         } = self;

@@ -22,7 +22,7 @@ pub returns-clause-exact : goal.returns-clause-exact
 returns-clause-exact c =
     let m = c.self.inside in
     log_is (goal.at.returns-clause-exact c).After-from_vec-2
-    ∙ one-kept m.config m.drive m.extra m.items.items (record { flat = m.flat; unit = m.unit }) (vec_capacity m.items) c.self.invariant.0
+    ∙ one-kept m.config m.drive m.extra m.items.items (record { flat = m.flat; unit = m.rotator.unit }) (vec_capacity m.items) c.self.invariant.0
     ∙ ap (λ (v : MachineView). log_of_choices v.config (choices_of v.items)) c.self.view_is
 
 pub returns-clause-legal : goal.returns-clause-legal
@@ -30,4 +30,4 @@ returns-clause-legal c =
     let m = c.self.inside in
     subst (IsLegal c.args.self.config) (sym (log_is (goal.at.returns-clause-legal c).After-from_vec-2))
         (subst (λ (v : MachineView). IsLegal v.config (record { items = m.items.items; ends = ends_of m.flat })) c.self.view_is
-            (legal-kept m.config m.drive m.extra m.items.items (record { flat = m.flat; unit = m.unit }) (vec_capacity m.items) c.self.invariant.0))
+            (legal-kept m.config m.drive m.extra m.items.items (record { flat = m.flat; unit = m.rotator.unit }) (vec_capacity m.items) c.self.invariant.0))
