@@ -76,9 +76,9 @@ GOOD | box = [ONE] | gateway = [{ box = "", function = 0, callers = ["a", "a", "
 GOOD | box = [ONE] | register = [] | gateway = [] | device = [] | script = ["a.0"] => Ok(())
 "#;
 
-// What `read_board` answers of boards in full.
+// Each case: the keys of a board, and behind `=>` the key that is at fault, or the board that is read.
 const BOARDS: &str =
-    r#"flash = [0x0, 0x100000], sram = [0x20000000, 0x20000], peripherals = [0x40000000, 0x100000] => Ok
+    r#"flash = [0x0, 0x100000], sram = [0x20000000, 0x20000], peripherals = [0x40000000, 0x100000] => Board { flash: Range { base: 0, len: 1048576 }, sram: Range { base: 536870912, len: 131072 }, peripherals: Range { base: 1073741824, len: 1048576 }, secret: None, words: Items { items: [] }, heap: None }
 flash = [0x0, 0x18000], sram = [0, 0], peripherals = [0, 0] => Flash
 flash = [0x8000, 0x10000], sram = [0, 0], peripherals = [0, 0] => Flash
 flash = [0x0, 0x200000], sram = [0, 0], peripherals = [0, 0] => Flash
@@ -88,10 +88,10 @@ flash = [0x0, 0x10000], sram = [0xFFE0, 0x40], peripherals = [0, 0] => Sram
 flash = [0x0, 0x10000], sram = [0x10000, 0x20000], peripherals = [0x2FFE0, 0x40] => Peripherals
 flash = [0x0, 0x10000], sram = [0x10000, 0x20000], peripherals = [0xDFFFFFE0, 0x40] => Peripherals
 flash = [0x0, 0x10000], sram = [0x10000, 0x20000], peripherals = [0x40000000, 0x20], secret = [0x8000, 0x10000] => Secret
-flash = [0x0, 0x10000], sram = [0x10000, 0x20000], peripherals = [0x40000000, 0x20], secret = [0x0, 0x10000], words = [[0xFFFC, 1], [0x4000001C, 2]] => Ok
+flash = [0x0, 0x10000], sram = [0x10000, 0x20000], peripherals = [0x40000000, 0x20], secret = [0x0, 0x10000], words = [[0xFFFC, 1], [0x4000001C, 2]] => Board { flash: Range { base: 0, len: 65536 }, sram: Range { base: 65536, len: 131072 }, peripherals: Range { base: 1073741824, len: 32 }, secret: Some(Range { base: 0, len: 65536 }), words: Items { items: [Word { at: 65532, value: 1 }, Word { at: 1073741852, value: 2 }] }, heap: None }
 flash = [0x0, 0x10000], sram = [0x10000, 0x20000], peripherals = [0x40000000, 0x20], words = [[0x10000, 1]] => Words
 flash = [0x0, 0x10000], sram = [0x10000, 0x20000], peripherals = [0x40000000, 0x20], words = [[0x0, 1], [0x4, 1], [0x0, 1]] => Words
-flash = [0x0, 0x10000], sram = [0x10000, 0x20000], peripherals = [0x40000000, 0x20], heap = { base = 0x18000, page = 1024, count = 16 } => Ok
+flash = [0x0, 0x10000], sram = [0x10000, 0x20000], peripherals = [0x40000000, 0x20], heap = { base = 0x18000, page = 1024, count = 16 } => Board { flash: Range { base: 0, len: 65536 }, sram: Range { base: 65536, len: 131072 }, peripherals: Range { base: 1073741824, len: 32 }, secret: None, words: Items { items: [] }, heap: Some(HeapPart { base: 98304, page: 1024, count: 16 }) }
 flash = [0x0, 0x10000], sram = [0x10000, 0x20000], peripherals = [0x40000000, 0x20], heap = { base = 0x18000, page = 1024, count = 12 } => Heap
 flash = [0x0, 0x10000], sram = [0x10000, 0x20000], peripherals = [0x40000000, 0x20], heap = { base = 0x19000, page = 1024, count = 8 } => Heap
 flash = [0x0, 0x10000], sram = [0x10000, 0x20000], peripherals = [0x40000000, 0x20], heap = { base = 0x2E000, page = 1024, count = 16 } => Heap
@@ -128,11 +128,11 @@ fn each_shape_is_refused_at_its_first_table(rt: HostRuntime) -> Result<(), Fail>
     Ok(())
 }
 
-// What `read_board` answers to a case: the key that is at fault, or `Ok`.
+// What `read_board` answers to a case: the key that is at fault, or the board.
 fn board_answer(alloc: Global, line: &str) -> Result<String, Fail> {
     let text = format!(in alloc; "board = {{ {line} }}\n")?;
     let answer = match read_board(alloc, &toml::table_from_str(alloc, text.as_str())?) {
-        Ok(_) => format!(in alloc; "Ok")?,
+        Ok(board) => format!(in alloc; "{board:?}")?,
         Err(ConfigErr::Refused(Refused::BadBoard { key })) => format!(in alloc; "{key:?}")?,
         Err(_) => format!(in alloc; "another error")?,
     };

@@ -112,14 +112,28 @@ fn a_document_is_read_whole(rt: HostRuntime) -> Result<(), Fail> {
     Ok(())
 }
 
+const FIRST: &str = r#"
+format = 1
+script = ["a.0", "a.0", "a.0", "a.0"]
+[board]
+flash = [0x0, 0x100000]
+sram = [0x20000000, 0x20000]
+peripherals = [0x40000000, 0x100000]
+[[box]]
+name = "a"
+size = 256
+[[box.thread]]
+program = "set r0 0x20000000\nhalt"
+"#;
+
 #[test]
 fn what_a_document_leaves_out_is_empty(rt: HostRuntime) -> Result<(), Fail> {
     let alloc = rt.alloc();
-    let document = toml::table_from_str(alloc, "")?;
-    assert_eq!(rt; read_boxes(alloc, &document)?.len(), 0);
+    let document = toml::table_from_str(alloc, FIRST)?;
+    assert_eq!(rt; read_boxes(alloc, &document)?.len(), 1);
     let gates = read_gates(alloc, &document)?;
     assert_eq!(rt; gates.registers.len() + gates.gateways.len(), 0);
     assert_eq!(rt; read_devices(alloc, &document)?.len(), 0);
-    assert_eq!(rt; read_script(alloc, &document)?.len(), 0);
+    assert_eq!(rt; read_script(alloc, &document)?.len(), 4);
     Ok(())
 }
