@@ -14,7 +14,7 @@ use Rattle.box_program.specs.declared.opcodes.Opcode.{Opcode}
 use Rattle.box_program.specs.Opcodes.{row, opcode_of}
 use Rattle.box_program.specs.Program.{◌>>=◌, Statement, bad_line, operand_at, instruction_with, instruction, instruction_at, instructions, statements, program}
 use Rattle.box_program.specs.Words.{lines}
-use Rattle.box_program.proofs.ValidLemmas.{operand_at_is, valid_made}
+use Rattle.box_program.proofs.ValidLemmas.{valid_from_operands}
 
 -- what holds of an answer that is the last of a chain
 then_ok : {A B E : Type 0} (r : Result A E) (f : A → Result B E) (P : B → Type 0) → ((a : A) → r ≡ Ok a → IfOk (f a) P) → IfOk (r >>= f) P
@@ -28,7 +28,7 @@ instruction_with_valid o line =
     then_ok (operand_at os line 0) _ IsValidInstr (λ a ea.
     then_ok (operand_at os line 1) _ IsValidInstr (λ b eb.
     then_ok (operand_at os line 2) _ IsValidInstr (λ c ec.
-    valid_made o a b c (operand_at_is os line 0 a ea) (operand_at_is os line 1 b eb) (operand_at_is os line 2 c ec))))
+    valid_from_operands o line a b c ea eb ec)))
 
 counted_valid : (o : Opcode) (line : List (List ℕ)) (b : Bool) → IfOk (if b then instruction_with o line else Err why.Count) IsValidInstr
 counted_valid o line true = instruction_with_valid o line

@@ -89,3 +89,9 @@ valid_made op.RpcTake a b c f s t = tt
 valid_made op.RpcReturn a b c f s t = f
 valid_made op.RpcResult a b c f s t = (f, s)
 valid_made op.Halt a b c f s t = tt
+
+-- an instruction of the operands that are read is valid
+pub valid_from_operands : (o : Opcode) (line : List (List ℕ)) (a b c : ℕ)
+    → operand_at (row o).operands line 0 ≡ Ok a → operand_at (row o).operands line 1 ≡ Ok b → operand_at (row o).operands line 2 ≡ Ok c → IsValidInstr ((row o).make a b c)
+valid_from_operands o line a b c ea eb ec =
+    valid_made o a b c (operand_at_is (row o).operands line 0 a ea) (operand_at_is (row o).operands line 1 b eb) (operand_at_is (row o).operands line 2 c ec)

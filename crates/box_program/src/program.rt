@@ -63,7 +63,7 @@ fn operand_at(operands: &[Operand], line: &[u8], place: usize) -> Result<u32, Wh
 }
 
 /// The instruction of a kind that a line gives: its operands are read from the left.
-#[tactic(auto, unfolding(crate::specs::Program::instruction_with))]
+#[tactic(auto, using(crate::proofs::ValidLemmas::valid_from_operands), unfolding(crate::specs::Program::instruction_with))]
 fn instruction_with(opcode: Opcode, line: &[u8]) -> Result<Instr, Why>
     ensures { result ≡ instruction_with opcode (words line.now) }
 {
