@@ -20,22 +20,22 @@ pub record IsGoing (range : Range) (rights : Rights) (at : ℕ) (items : List Pa
 -- where the range begins nothing is there yet
 pub IsGoing-start : (range : Range) (rights : Rights) → range.base % 32 ≡ 0 → range.len % 32 ≡ 0 → end_of range ≤ ADDRESS_END → IsGoing range rights range.base []
 IsGoing-start range rights base len limit = record {
-    steps = range.len / 32;
-    enough = omega arith;
-    span = record { low = base; high = omega arith; limit = omega arith };
-    within = omega arith;
-    so_far = refl;
+  steps = range.len / 32;
+  enough = omega arith;
+  span = record { low = base; high = omega arith; limit = omega arith };
+  within = omega arith;
+  so_far = refl;
 }
 
 left_by : (range : Range) (rights : Rights) (at steps : ℕ) (items : List Pair) → end_of range ≤ at + 32 * steps → IsSpan at (end_of range) → at < end_of range → items ++ map (block_pair (attributes rights)) (blocks steps at (end_of range)) ≡ cover_of range rights → IsSpan range.base (end_of range) → length items < 54
 left_by range rights at zero items enough span before so_far whole = absurd (omega arith)
 left_by range rights at (suc n) items enough span before so_far whole =
     let all : length (cover_of range rights) ≤ 54 =
-        rw (length-map (blocks (range.len / 32) range.base (end_of range)) (block_pair (attributes rights))) (length-blocks (range.len / 32) range.base (end_of range) whole) in
+    rw (length-map (blocks (range.len / 32) range.base (end_of range)) (block_pair (attributes rights))) (length-blocks (range.len / 32) range.base (end_of range) whole) in
     let sum : length items + length (map (block_pair (attributes rights)) (blocks (suc n) at (end_of range))) ≤ 54 =
-        rw (← length-append) (rw so_far all) in
+    rw (← length-append) (rw so_far all) in
     let some : length (map (block_pair (attributes rights)) (blocks (suc n) at (end_of range))) ≡ suc (length (map (block_pair (attributes rights)) (blocks n (at + 2 ^ exponent at (end_of range)) (end_of range)))) =
-        ap (λ bs. length (map (block_pair (attributes rights)) bs)) (blocks-more n at (end_of range) before) in
+    ap (λ bs. length (map (block_pair (attributes rights)) bs)) (blocks-more n at (end_of range) before) in
     omega (arith, sum, some)
 
 -- there is room for one more
@@ -47,14 +47,14 @@ more_by range rights at zero items enough span before so_far = absurd (omega ari
 more_by range rights at (suc n) items enough span before so_far =
     let it = IsLargest-exponent at (end_of range) span before in
     record {
-        steps = n;
-        enough = omega (arith, enough, at_least_32 (exponent at (end_of range)) it.enough);
-        span = IsSpan-rest at (end_of range) (exponent at (end_of range)) span it;
-        within = it.within;
-        so_far =
-            append_assoc items (block_pair (attributes rights) (record { base = at; exponent = exponent at (end_of range) }) ∷ []) (map (block_pair (attributes rights)) (blocks n (at + 2 ^ exponent at (end_of range)) (end_of range)))
-            ∙ ap (λ bs. items ++ map (block_pair (attributes rights)) bs) (sym (blocks-more n at (end_of range) before))
-            ∙ so_far;
+      steps = n;
+      enough = omega (arith, enough, at_least_32 (exponent at (end_of range)) it.enough);
+      span = IsSpan-rest at (end_of range) (exponent at (end_of range)) span it;
+      within = it.within;
+      so_far =
+          append_assoc items (block_pair (attributes rights) (record { base = at; exponent = exponent at (end_of range) }) ∷ []) (map (block_pair (attributes rights)) (blocks n (at + 2 ^ exponent at (end_of range)) (end_of range)))
+          ∙ ap (λ bs. items ++ map (block_pair (attributes rights)) bs) (sym (blocks-more n at (end_of range) before))
+          ∙ so_far;
     }
 
 -- one more block

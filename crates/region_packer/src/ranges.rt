@@ -25,7 +25,11 @@ fn attributes_of(rights: Rights) -> u32
     ensures room { result < 2 ^ 31 }
 {
     let never = if rights.gives(Kind::Fetch) { NEVER } else { 0 };
-    let writable = if rights.gives(Kind::Write) { WRITABLE } else { 0 };
+    let writable = if rights.gives(Kind::Write) {
+        WRITABLE
+    } else {
+        0
+    };
     READ_ONLY - never - writable
 }
 

@@ -17,7 +17,13 @@ fn seven_blocks_of_32_bytes_are_three_regions(rt: HostRuntime) {
     ];
     assert_eq!(rt; pairs.len(), 3);
     for (pair, (rbar, rasr)) in pairs.as_slice().iter().zip(expected.iter()) {
-        assert_eq!(rt; *pair, Pair { rbar: *rbar, rasr: *rasr });
+        assert_eq!(rt;
+            *pair,
+            Pair {
+                rbar: *rbar,
+                rasr: *rasr
+            }
+        );
     }
 }
 

@@ -31,29 +31,29 @@ overlay_known flash (Some s) false it = inr (is_region-hidden s it.block)
 -- the regions of a placed box are valid
 pub IsHome-placed : (cfg : Config) (part : BoxPart) → IsPlaced cfg.board part → IsHome (home_pairs cfg part)
 IsHome-placed cfg part placed = record {
-    flash = inr (is_region-pair_of_rights cfg.board.flash READ_EXECUTE placed.flash);
-    own = inr (is_region-pair_of_rights part.own READ_WRITE placed.own);
-    overlay = overlay_known cfg.board.flash cfg.board.secret part.secret placed.secret;
-    grants = each-flat_map (λ g. cover_of g.range g.rights) IsTiledGrant IsKnown
-        (λ g it. each_weaker (OfCover g.range g.rights) IsKnown (λ p of. inr of.valid) (cover_of g.range g.rights) (each-cover_of g.range g.rights it.tiled it.reads))
-        part.grants placed.grants;
+  flash = inr (is_region-pair_of_rights cfg.board.flash READ_EXECUTE placed.flash);
+  own = inr (is_region-pair_of_rights part.own READ_WRITE placed.own);
+  overlay = overlay_known cfg.board.flash cfg.board.secret part.secret placed.secret;
+  grants = each-flat_map (λ g. cover_of g.range g.rights) IsTiledGrant IsKnown
+      (λ g it. each_weaker (OfCover g.range g.rights) IsKnown (λ p of. inr of.valid) (cover_of g.range g.rights) (each-cover_of g.range g.rights it.tiled it.reads))
+      part.grants placed.grants;
 }
 
 pub each_home : (cfg : Config) → sound.IsSound cfg → AllByRecursion IsHome (map (home_pairs cfg) cfg.boxes)
 each_home cfg it =
     each-map (home_pairs cfg) (IsPlaced cfg.board) IsHome (IsHome-placed cfg) cfg.boxes
-        (each-from_get (IsPlaced cfg.board) cfg.boxes (λ i part found. IsPlaced-from_sound cfg it i part found))
+    (each-from_get (IsPlaced cfg.board) cfg.boxes (λ i part found. IsPlaced-from_sound cfg it i part found))
 
 pub heap_below : (cfg : Config) → sound.IsSound cfg → IfSome cfg.board.heap IsHeapBelow
 heap_below cfg it = from_heap cfg.board.heap it.board.heap
- where
-  from_heap : (heap : Option HeapPart) → IfSome heap (sound.IsHeap cfg.board.sram) → IfSome heap IsHeapBelow
-  from_heap None found = tt
-  from_heap (Some h) found = record {
+  where
+    from_heap : (heap : Option HeapPart) → IfSome heap (sound.IsHeap cfg.board.sram) → IfSome heap IsHeapBelow
+    from_heap None found = tt
+    from_heap (Some h) found = record {
       grouped = IsGrouped-from cfg.board.sram h found;
       few = found.greatest_count;
       ends = omega (arith, found.high, it.board.sram_bank.ends);
-  }
+    }
 
 -- what a box's regions are made of
 pub record IsMakable (cfg : Config) (part : BoxPart) : Type 0 where
@@ -63,21 +63,21 @@ pub record IsMakable (cfg : Config) (part : BoxPart) : Type 0 where
 pub each_makable : (cfg : Config) → sound.IsSound cfg → AllByRecursion (IsMakable cfg) cfg.boxes
 each_makable cfg it =
     each-from_get (IsMakable cfg) cfg.boxes (λ i part found.
-        let placed = IsPlaced-from_sound cfg it i part found in
-        let box = each-get _ cfg.boxes i part it.boxes found in
-        record {
-            own = omega (arith, placed.own.is_power, at_least_32 placed.own.exponent placed.own.enough);
-            grants = each_weaker _ IsCoverable (λ g grant. record {
-                base = grant.tiled.base;
-                len = grant.tiled.len;
-                ends = grant_ends cfg it i part found g grant;
-                rights = grant.rights;
-            }) part.grants box.grants;
-        })
+    let placed = IsPlaced-from_sound cfg it i part found in
+    let box = each-get _ cfg.boxes i part it.boxes found in
+    record {
+      own = omega (arith, placed.own.is_power, at_least_32 placed.own.exponent placed.own.enough);
+      grants = each_weaker _ IsCoverable (λ g grant. record {
+        base = grant.tiled.base;
+        len = grant.tiled.len;
+        ends = grant_ends cfg it i part found g grant;
+        rights = grant.rights;
+      }) part.grants box.grants;
+    })
 
 pub secret_least : (cfg : Config) → sound.IsSound cfg → IfSome cfg.board.secret (λ secret. 32 ≤ secret.len)
 secret_least cfg it = from_secret cfg.board.secret it.board.secret
- where
-  from_secret : (secret : Option Range) → IfSome secret (λ s. sound.IsPowerRange s × sound.IsInside s cfg.board.flash) → IfSome secret (λ s. 32 ≤ s.len)
-  from_secret None found = tt
-  from_secret (Some s) found = found.0.enough
+  where
+    from_secret : (secret : Option Range) → IfSome secret (λ s. sound.IsPowerRange s × sound.IsInside s cfg.board.flash) → IfSome secret (λ s. 32 ≤ s.len)
+    from_secret None found = tt
+    from_secret (Some s) found = found.0.enough

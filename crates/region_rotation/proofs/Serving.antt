@@ -28,7 +28,7 @@ module _ (a : ℕ) (kind : Kind) where
   pub first_serving-left : (xs ys : List Pair) (p : Pair) → first_serving a kind xs ≡ Some p → first_serving a kind (xs ++ ys) ≡ Some p
   first_serving-left [] ys p found = absurd (cc)
   first_serving-left (x ∷ xs) ys p found = elim (cases_Bool (serves a kind x)) [
-      inl here ↦ first_serving-here x (xs ++ ys) here ∙ sym (first_serving-here x xs here) ∙ found
+    | inl here ↦ first_serving-here x (xs ++ ys) here ∙ sym (first_serving-here x xs here) ∙ found
     | inr off ↦ first_serving-past x (xs ++ ys) off ∙ first_serving-left xs ys p (sym (first_serving-past x xs off) ∙ found)
   ]
 
@@ -36,6 +36,6 @@ module _ (a : ℕ) (kind : Kind) where
   pub first_serving-right : (xs ys : List Pair) → first_serving a kind xs ≡ None → first_serving a kind (xs ++ ys) ≡ first_serving a kind ys
   first_serving-right [] ys none = refl
   first_serving-right (x ∷ xs) ys none = elim (cases_Bool (serves a kind x)) [
-      inl here ↦ absurd (let e : Some x ≡ None = sym (first_serving-here x xs here) ∙ none in cc)
+    | inl here ↦ absurd (let e : Some x ≡ None = sym (first_serving-here x xs here) ∙ none in cc)
     | inr off ↦ first_serving-past x (xs ++ ys) off ∙ first_serving-right xs ys (sym (first_serving-past x xs off) ∙ none)
   ]

@@ -17,10 +17,10 @@ pub record Rotation : Type 0 where
 -- the regions of a box: the three that stand at a switch, and those that cover its grants
 abbrev pub home_pairs : Config → BoxPart → HomePairs
 home_pairs cfg part = record {
-    flash = flash_pair cfg.board;
-    own = own_pair part;
-    overlay = overlay_pair cfg.board part;
-    grants = grant_pairs part.grants;
+  flash = flash_pair cfg.board;
+  own = own_pair part;
+  overlay = overlay_pair cfg.board part;
+  grants = grant_pairs part.grants;
 }
 
 -- the rotation of a configuration whose unit is in this state

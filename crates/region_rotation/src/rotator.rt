@@ -38,9 +38,9 @@ impl Model for Rotator {
     ghost Value = { Rotation };
 
     ghost view = { λ r. record {
-        homes = r.homes.items;
-        heap = r.heap;
-        unit = record { last = r.last; pairs = r.unit; circle = r.circle };
+      homes = r.homes.items;
+      heap = r.heap;
+      unit = record { last = r.last; pairs = r.unit; circle = r.circle };
     } };
 
     ghost invariant = { λ r. IsReady r.homes.items r.heap r.last r.unit r.circle };

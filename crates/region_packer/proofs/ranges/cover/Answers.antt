@@ -17,7 +17,7 @@ use Rattle.region_packer.proofs.ranges.cover.Goals as goal
 pub loop-at-init : goal.loop-at-init
 loop-at-init c =
     subst (IsGoing c.args.range c.args.rights c.args.range.base) (sym c.requires.empty)
-        (IsGoing-start c.args.range c.args.rights c.requires.base c.requires.len c.requires.end)
+    (IsGoing-start c.args.range c.args.rights c.requires.base c.requires.len c.requires.end)
 
 pub push-requires : goal.push-requires
 push-requires c =
@@ -29,15 +29,15 @@ loop-at-preserved c =
     let more = IsGoing-more c.args.range c.args.rights c.loop-at.at c.loop-at.out.items c.loop-at-test.true c.loop-at.invariant in
     let k : c.exponent_at-exponent.result ≡ exponent c.loop-at.at (end_of c.args.range) = c.exponent_at-exponent.ensures.exact in
     let pair : c.region_at.result ≡ block_pair (attributes c.args.rights) (record { base = c.loop-at.at; exponent = exponent c.loop-at.at (end_of c.args.range) }) =
-        c.region_at.ensures
-        ∙ ap (λ b. block_pair b (record { base = c.loop-at.at; exponent = c.exponent_at-exponent.result })) c.attributes_of-bits.ensures.exact
-        ∙ ap (λ e. block_pair (attributes c.args.rights) (record { base = c.loop-at.at; exponent = e })) k in
+    c.region_at.ensures
+    ∙ ap (λ b. block_pair b (record { base = c.loop-at.at; exponent = c.exponent_at-exponent.result })) c.attributes_of-bits.ensures.exact
+    ∙ ap (λ e. block_pair (attributes c.args.rights) (record { base = c.loop-at.at; exponent = e })) k in
     let items : c.push.new.self.items ≡ c.loop-at.out.items ++ block_pair (attributes c.args.rights) (record { base = c.loop-at.at; exponent = exponent c.loop-at.at (end_of c.args.range) }) ∷ [] =
-        c.push.ensures.items ∙ ap (λ p. c.loop-at.out.items ++ p ∷ []) pair in
+    c.push.ensures.items ∙ ap (λ p. c.loop-at.out.items ++ p ∷ []) pair in
     let step : c.loop-at.at + c.bytes_of-at.result ≡ c.loop-at.at + 2 ^ exponent c.loop-at.at (end_of c.args.range) =
-        ap (λ n. c.loop-at.at + n) (c.bytes_of-at.ensures ∙ ap (λ e. 2 ^ e) k) in
+    ap (λ n. c.loop-at.at + n) (c.bytes_of-at.ensures ∙ ap (λ e. 2 ^ e) k) in
     subst (λ a. IsGoing c.args.range c.args.rights a c.push.new.self.items) (sym step)
-        (subst (IsGoing c.args.range c.args.rights (c.loop-at.at + 2 ^ exponent c.loop-at.at (end_of c.args.range))) (sym items) more)
+    (subst (IsGoing c.args.range c.args.rights (c.loop-at.at + 2 ^ exponent c.loop-at.at (end_of c.args.range))) (sym items) more)
 
 pub returns-clause-exact : goal.returns-clause-exact
 returns-clause-exact c = IsGoing-end c.args.range c.args.rights c.loop-at.at c.loop-at.out.items c.loop-at-test.false c.loop-at.invariant
@@ -53,9 +53,9 @@ returns-clause-valid c =
     let tiled : IsTiled c.args.range = record { base_whole = c.requires.base; len_whole = c.requires.len; limit = omega (arith, c.requires.end) } in
     let items = IsGoing-end c.args.range c.args.rights c.loop-at.at c.loop-at.out.items c.loop-at-test.false c.loop-at.invariant in
     subst (All (λ p. is_region p ≡ true)) (sym items)
-        (All-from_recursion (λ p. is_region p ≡ true) (cover_of c.args.range c.args.rights)
-            (each_weaker (OfCover c.args.range c.args.rights) (λ p. is_region p ≡ true) (λ p of. of.valid) (cover_of c.args.range c.args.rights)
-                (each-cover_of c.args.range c.args.rights tiled (reads_of c.args.rights c.requires.rights))))
+    (All-from_recursion (λ p. is_region p ≡ true) (cover_of c.args.range c.args.rights)
+    (each_weaker (OfCover c.args.range c.args.rights) (λ p. is_region p ≡ true) (λ p of. of.valid) (cover_of c.args.range c.args.rights)
+    (each-cover_of c.args.range c.args.rights tiled (reads_of c.args.rights c.requires.rights))))
 
 pub returns-clause-addresses : goal.returns-clause-addresses
 returns-clause-addresses c = λ a.
@@ -68,6 +68,6 @@ returns-clause-kinds c =
     let tiled : IsTiled c.args.range = record { base_whole = c.requires.base; len_whole = c.requires.len; limit = omega (arith, c.requires.end) } in
     let items = IsGoing-end c.args.range c.args.rights c.loop-at.at c.loop-at.out.items c.loop-at-test.false c.loop-at.invariant in
     subst (All (λ p. (kind : Kind) → pair_gives p kind ≡ gives c.args.rights kind)) (sym items)
-        (All-from_recursion (λ p. (kind : Kind) → pair_gives p kind ≡ gives c.args.rights kind) (cover_of c.args.range c.args.rights)
-            (each_weaker (OfCover c.args.range c.args.rights) (λ p. (kind : Kind) → pair_gives p kind ≡ gives c.args.rights kind) (λ p of. of.given) (cover_of c.args.range c.args.rights)
-                (each-cover_of c.args.range c.args.rights tiled (reads_of c.args.rights c.requires.rights))))
+    (All-from_recursion (λ p. (kind : Kind) → pair_gives p kind ≡ gives c.args.rights kind) (cover_of c.args.range c.args.rights)
+    (each_weaker (OfCover c.args.range c.args.rights) (λ p. (kind : Kind) → pair_gives p kind ≡ gives c.args.rights kind) (λ p of. of.given) (cover_of c.args.range c.args.rights)
+    (each-cover_of c.args.range c.args.rights tiled (reads_of c.args.rights c.requires.rights))))

@@ -49,21 +49,22 @@ returns-then-is_serving c =
     let some : owned_mask owners c.args.b.0 (8 * c.loop-g.g) 8 ≡ 0 → ⊥ = λ none. true≢false (c.in-Some.ensures.none.1 (c.mask_of-mask.ensures ∙ none)) in
     let pair = same_pair heap owners c.args.b.0 c.loop-g.base c.loop-g.g c.mask_of-mask.result c.in-Some.pair c.loop-g.invariant.0 c.mask_of-mask.ensures c.in-Some.ensures.exact in
     let here : serves c.args.a c.args.kind (group_pair (heap.base + 8 * c.loop-g.g * heap.page) heap.page (owned_mask owners c.args.b.0 (8 * c.loop-g.g) 8)) ≡ true =
-        ap (serves c.args.a c.args.kind) (sym pair) ∙ sym c.is_serving.ensures ∙ c.if-is_serving.true in
+    ap (serves c.args.a c.args.kind) (sym pair) ∙ sym c.is_serving.ensures ∙ c.if-is_serving.true in
     ap Some pair ∙ sym (first_serving-group heap owners c.args.b.0 c.args.a c.args.kind c.loop-g.g c.loop-g-test.true some here) ∙ c.loop-g.invariant.1
 
 pub loop-g-preserved : goal.loop-g-preserved
 loop-g-preserved c =
     let heap : HeapPart = c.args.heap in
-    let owners : List (Option BoxId) = c.args.owners.now in
-    (omega (arith, c.loop-g.invariant.0),
-    elim c.match-group.branch [
-        in-Some+else-is_serving w ↦
-          let some : owned_mask owners c.args.b.0 (8 * c.loop-g.g) 8 ≡ 0 → ⊥ = λ none. true≢false (w.in-Some.ensures.none.1 (c.mask_of-mask.ensures ∙ none)) in
-          let pair = same_pair heap owners c.args.b.0 c.loop-g.base c.loop-g.g c.mask_of-mask.result w.in-Some.pair c.loop-g.invariant.0 c.mask_of-mask.ensures w.in-Some.ensures.exact in
-          sym (first_serving-off heap owners c.args.b.0 c.args.a c.args.kind c.loop-g.g c.loop-g-test.true some
-              (ap (serves c.args.a c.args.kind) (sym pair) ∙ sym w.is_serving.ensures ∙ w.if-is_serving.false)) ∙ c.loop-g.invariant.1
-      | in_default w ↦
-          let none : owned_mask owners c.args.b.0 (8 * c.loop-g.g) 8 ≡ 0 = sym c.mask_of-mask.ensures ∙ c.group.ensures.none.0 (ap is_some w.in_default.is) in
-          sym (first_serving-empty heap owners c.args.b.0 c.args.a c.args.kind c.loop-g.g c.loop-g-test.true none) ∙ c.loop-g.invariant.1
-    ])
+    let owners : List (Option BoxId) = c.args.owners.now in (
+      omega (arith, c.loop-g.invariant.0),
+      elim c.match-group.branch [
+        | in-Some+else-is_serving w ↦
+            let some : owned_mask owners c.args.b.0 (8 * c.loop-g.g) 8 ≡ 0 → ⊥ = λ none. true≢false (w.in-Some.ensures.none.1 (c.mask_of-mask.ensures ∙ none)) in
+            let pair = same_pair heap owners c.args.b.0 c.loop-g.base c.loop-g.g c.mask_of-mask.result w.in-Some.pair c.loop-g.invariant.0 c.mask_of-mask.ensures w.in-Some.ensures.exact in
+            sym (first_serving-off heap owners c.args.b.0 c.args.a c.args.kind c.loop-g.g c.loop-g-test.true some
+            (ap (serves c.args.a c.args.kind) (sym pair) ∙ sym w.is_serving.ensures ∙ w.if-is_serving.false)) ∙ c.loop-g.invariant.1
+        | in_default w ↦
+            let none : owned_mask owners c.args.b.0 (8 * c.loop-g.g) 8 ≡ 0 = sym c.mask_of-mask.ensures ∙ c.group.ensures.none.0 (ap is_some w.in_default.is) in
+            sym (first_serving-empty heap owners c.args.b.0 c.args.a c.args.kind c.loop-g.g c.loop-g-test.true none) ∙ c.loop-g.invariant.1
+      ],
+    )

@@ -35,15 +35,18 @@ more owners b first i m t is sum =
 
 pub overflow_add-mask : goal.overflow_add-mask
 overflow_add-mask c =
-    omega (arith, mask_fits c.loop-i.mask c.loop-i.i
-        (rw c.loop-i.invariant (owned_mask_below c.args.owners.now c.args.b.0 c.args.first c.loop-i.i)) c.loop-i-test.true)
+    omega (
+      arith,
+      mask_fits c.loop-i.mask c.loop-i.i
+          (rw c.loop-i.invariant (owned_mask_below c.args.owners.now c.args.b.0 c.args.first c.loop-i.i)) c.loop-i-test.true,
+    )
 
 pub loop-i-preserved : goal.loop-i-preserved
 loop-i-preserved c =
     let owns_it : owns c.args.owners.now c.args.b.0 (c.args.first + c.loop-i.i) ≡ c.is_owner.result =
-        owns-get_or c.args.owners.now c.args.b.0 (c.args.first + c.loop-i.i) None (omega (arith, c.requires)) ∙ sym c.is_owner.ensures in
+    owns-get_or c.args.owners.now c.args.b.0 (c.args.first + c.loop-i.i) None (omega (arith, c.requires)) ∙ sym c.is_owner.ensures in
     let bit : (1 * 2 ^ c.loop-i.i) % 2 ^ 8 ≡ 2 ^ c.loop-i.i = one_shl c.loop-i.i 8 c.loop-i-test.true in
     elim c.if-is_owner.branch [
-        then-is_owner w ↦ more c.args.owners.now c.args.b.0 c.args.first c.loop-i.i c.if-is_owner.mask true (owns_it ∙ w.if-is_owner.true) (omega (arith, w.mask-is, bit, c.loop-i.invariant))
+      | then-is_owner w ↦ more c.args.owners.now c.args.b.0 c.args.first c.loop-i.i c.if-is_owner.mask true (owns_it ∙ w.if-is_owner.true) (omega (arith, w.mask-is, bit, c.loop-i.invariant))
       | else-is_owner w ↦ more c.args.owners.now c.args.b.0 c.args.first c.loop-i.i c.if-is_owner.mask false (owns_it ∙ w.if-is_owner.false) (omega (arith, w.mask-is, c.loop-i.invariant))
     ]
