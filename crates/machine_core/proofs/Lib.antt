@@ -1,3 +1,4 @@
 pub mod EventLemmas
+pub mod FixtureSound
 pub mod KeptEvents
 pub mod MachineLemmas

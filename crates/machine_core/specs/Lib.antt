@@ -1,2 +1,3 @@
+pub mod Fixture
 pub mod Kept
 pub mod View

@@ -1,12 +1,19 @@
+ghost use Rattle.std.specs.Prelude.{◌≡◌, IfOk};
+ghost use Rattle.machine_core.specs.Fixture as fixture;
+
 use crate::Machine;
 use flat_model::{
-    Board, BoxId, BoxPart, Choice, Config, Drive, End, Entry, Flaw, Instr, Item, Items, Kind, Logged,
-    Mode, OutOfMemory, Range, Reply, Rights, Text, ThreadId, ThreadPart, UnitLine, Verdict,
+    Board, BoxId, BoxPart, Choice, Config, Drive, End, Entry, Flaw, Instr, Item, Items, Kind,
+    Logged, Mode, OutOfMemory, Pair, Range, Reply, Rights, Text, ThreadId, ThreadPart, UnitLine,
+    Verdict,
 };
 use std::alloc::Global;
 use std::test::Fail;
 
-const FLASH: Range = Range { base: 0, len: 0x10_0000 };
+const FLASH: Range = Range {
+    base: 0,
+    len: 0x10_0000,
+};
 
 const SRAM: Range = Range {
     base: 0x2000_0000,
@@ -18,7 +25,17 @@ const PERIPHERALS: Range = Range {
     len: 0x10_0000,
 };
 
-fn board(alloc: Global) -> Board {
+const GRANT: Item = Item {
+    range: Range {
+        base: 0x4000_0020,
+        len: 0xE0,
+    },
+    rights: Rights::READ_WRITE,
+};
+
+fn board(alloc: Global) -> Board
+    ensures { result ≡ fixture.board }
+{
     Board {
         flash: FLASH,
         sram: SRAM,
@@ -30,7 +47,15 @@ fn board(alloc: Global) -> Board {
 }
 
 // A box of 256 bytes with two threads, the first of which is its server.
-fn part(alloc: Global, name: &str, base: u32, first: u8) -> Result<BoxPart, OutOfMemory> {
+fn part(
+    alloc: Global,
+    name: &str,
+    base: u32,
+    first: u8,
+    grants: &[Item],
+) -> Result<BoxPart, OutOfMemory>
+    ensures { IfOk result (λ part. part ≡ fixture.part name.now base first grants.now) }
+{
     let own = Range { base, len: 256 };
     let flash = Item {
         range: FLASH,
@@ -40,6 +65,9 @@ fn part(alloc: Global, name: &str, base: u32, first: u8) -> Result<BoxPart, OutO
         range: own,
         rights: Rights::READ_WRITE,
     };
+    let mut items = vec![in alloc; flash, ram]?;
+    items.extend_from_slice(grants)?;
+    let granted = Vec::from_slice(alloc, grants)?;
     Ok(BoxPart {
         name: Text::from_string(String::from_str(alloc, name)?),
         own,
@@ -47,39 +75,44 @@ fn part(alloc: Global, name: &str, base: u32, first: u8) -> Result<BoxPart, OutO
         first: first as u32,
         threads: 2,
         server: ThreadId(first),
-        items: Items::from_vec(vec![in alloc; flash, ram]?),
-        grants: Items::from_vec(Vec::new(alloc)),
+        items: Items::from_vec(items),
+        grants: Items::from_vec(granted),
         irqs: Items::from_vec(Vec::new(alloc)),
     })
 }
 
-fn thread(alloc: Global, home: u8, program: &[Instr], steps: u32) -> Result<ThreadPart, OutOfMemory> {
+fn thread(alloc: Global, home: u8, program: &[Instr], steps: u32) -> Result<ThreadPart, OutOfMemory>
+    ensures { IfOk result (λ thread. thread ≡ fixture.thread home program.now steps) }
+{
     Ok(ThreadPart {
         home: BoxId(home),
-        program: Items::from_vec(program.to_vec(alloc)?),
+        program: Items::from_vec(Vec::from_slice(alloc, program)?),
         steps,
     })
 }
 
-// Two boxes of two threads: `a` stores, loads and asks for its number, `b` reads of `a` and runs out
-// of steps.
-fn two_boxes(alloc: Global) -> Result<Config, OutOfMemory> {
+// Two boxes of two threads: `a` stores and loads in its own memory and by its grant, `b` reads of
+// `a` and runs out of steps.
+fn two_boxes(alloc: Global) -> Result<Config, OutOfMemory>
+    ensures { IfOk result (λ config. config ≡ fixture.two_boxes) }
+{
     let storing = [
         Instr::Set(0, 0x2000_0000),
         Instr::Store32(0, 0, 4),
         Instr::Load32(1, 0, 4),
         Instr::Halt,
     ];
-    let asking = [Instr::BoxId(3), Instr::Halt];
+    let using = [Instr::Set(0, 0x4000_0020), Instr::Load32(3, 0, 0xDC)];
     let prying = [Instr::Set(0, 0x2000_0000), Instr::Load32(1, 0, 0)];
     let turning = [Instr::Set(1, 1), Instr::Jump(0)];
-    let boxes = vec![in alloc; part(alloc, "a", 0x2000_0000, 0)?, part(alloc, "b", 0x2000_0100, 2)?]?;
-    let threads = vec![in alloc;
-        thread(alloc, 0, &storing, 100)?,
-        thread(alloc, 0, &asking, 100)?,
-        thread(alloc, 1, &prying, 100)?,
-        thread(alloc, 1, &turning, 2)?,
-    ]?;
+    let a = part(alloc, "a", 0x2000_0000, 0, &[GRANT])?;
+    let b = part(alloc, "b", 0x2000_0100, 2, &[])?;
+    let boxes = vec![in alloc; a, b]?;
+    let first = thread(alloc, 0, &storing, 100)?;
+    let second = thread(alloc, 0, &using, 100)?;
+    let third = thread(alloc, 1, &prying, 100)?;
+    let fourth = thread(alloc, 1, &turning, 2)?;
+    let threads = vec![in alloc; first, second, third, fourth]?;
     Ok(Config {
         version: 1,
         board: board(alloc),
@@ -90,6 +123,18 @@ fn two_boxes(alloc: Global) -> Result<Config, OutOfMemory> {
         devices: Items::from_vec(Vec::new(alloc)),
         script: Items::from_vec(Vec::new(alloc)),
     })
+}
+
+// A step of a thread that is there, and has not ended where no extra event may come.
+fn step(machine: &mut Machine, t: ThreadId)
+    requires { machine.old.drive ≡ Drive.Script }
+    ensures { machine.new.drive ≡ Drive.Script }
+{
+    let is_there = (t.0 as usize) < machine.config().threads.len();
+    let may_step = !machine.ended(t) || machine.extra() > 0;
+    if is_there && may_step {
+        machine.script_step(t);
+    }
 }
 
 fn turn(t: u8, reply: Reply) -> Logged {
@@ -119,8 +164,8 @@ fn access(kind: Kind, at: u32, verdict: Verdict) -> Logged {
 fn two_boxes_run_by_the_script(rt: HostRuntime) -> Result<(), Fail> {
     let config = two_boxes(rt.alloc())?;
     let mut machine = Machine::boot(rt.alloc(), config, Drive::Script, 1)?;
-    for t in [0, 0, 2, 2, 0, 1, 3, 3, 3, 0] {
-        machine.script_step(ThreadId(t));
+    for t in [0, 0, 2, 2, 0, 1, 1, 3, 3, 3, 0] {
+        step(&mut machine, ThreadId(t));
     }
     assert_eq!(rt; machine.extra(), 0, "one event of a thread that had ended");
     let (config, log) = machine.into_log();
@@ -141,6 +186,15 @@ fn two_boxes_run_by_the_script(rt: HostRuntime) -> Result<(), Fail> {
         switch(0),
         access(Kind::Read, 0x2000_0004, Verdict::Granted(1)),
         turn(0, Reply::Value(0x2000_0000)),
+        turn(1, Reply::Done),
+        Logged::Unit(UnitLine::Rotate {
+            slot: 2,
+            pair: Pair {
+                rbar: 0x4000_0080,
+                rasr: 0x1300_000D,
+            },
+        }),
+        access(Kind::Read, 0x4000_00FC, Verdict::Granted(2)),
         turn(1, Reply::Value(0)),
         switch(1),
         turn(3, Reply::Done),
@@ -158,8 +212,8 @@ fn two_boxes_run_by_the_script(rt: HostRuntime) -> Result<(), Fail> {
         },
         End {
             mode: Mode::Ready,
-            steps: 1,
-            regs: [0; 8],
+            steps: 2,
+            regs: [0x4000_0020, 0, 0, 0, 0, 0, 0, 0],
         },
         End {
             mode: Mode::Faulted,
