@@ -1,4 +1,10 @@
 pub mod DecimalLemmas
+pub mod ItemsBack
 pub mod NameLemmas
+pub mod NumberLemmas
 pub mod Printing
 pub mod SpacedLemmas
+pub mod ThreadsBack
+pub mod TypedBack
+pub mod WordLemmas
+pub mod WordsOfItems

@@ -1,1 +1,4 @@
+pub mod Candidates
+pub mod Reading
 pub mod Spaced
+pub mod Typed

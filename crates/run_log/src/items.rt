@@ -12,7 +12,7 @@ use flat_model::{
     Ticket, UnitLine, Verdict,
 };
 
-fn home_of(config: &Config, t: ThreadId) -> BoxId
+pub fn home_of(config: &Config, t: ThreadId) -> BoxId
     ensures { result ≡ home_of config.now t.0 }
 {
     match config.threads.as_slice().get(usize::from(t.0)) {
@@ -41,7 +41,7 @@ pub fn push_name(config: &Config, b: BoxId, page: &mut Page)
     page.push_bytes(box_name(config, b));
 }
 
-fn first_thread(config: &Config, b: BoxId) -> u32
+pub fn first_thread(config: &Config, b: BoxId) -> u32
     ensures { result ≡ first_thread config.now b.0 }
 {
     match config.boxes.as_slice().get(usize::from(b.0)) {

@@ -1,7 +1,9 @@
 //! The text of a log, written and read.
 #![tactic(auto)]
 
+mod candidates;
 mod items;
+mod named;
 mod page;
 mod writing;
 
