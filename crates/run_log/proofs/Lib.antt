@@ -1,8 +1,10 @@
 pub mod DecimalLemmas
 pub mod ItemsBack
+pub mod LineLemmas
 pub mod NameLemmas
 pub mod NumberLemmas
 pub mod Printing
+pub mod ReadingLemmas
 pub mod SpacedLemmas
 pub mod ThreadsBack
 pub mod TypedBack

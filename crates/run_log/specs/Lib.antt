@@ -1,4 +1,6 @@
 pub mod Candidates
+pub mod Lines
 pub mod Reading
 pub mod Spaced
+pub mod Stops
 pub mod Typed

@@ -282,26 +282,37 @@ fn push_entry(config: &Config, entry: &Entry, page: &mut Page)
     }
 }
 
-/// Prints the line of an item.
+/// Prints the line of an item without its line feed.
 #[tactic(auto, unfolding(flat_model::specs::Text::item_line))]
-pub fn push_item(config: &Config, item: &Logged, page: &mut Page)
+pub fn push_item_words(config: &Config, item: &Logged, page: &mut Page)
     requires sound { IsSound config.now }
-    requires room { length page.old + 256 ≤ 4096 }
-    ensures { page.new ≡ page.old ++ item_line config.now item.now }
+    requires room { length page.old + 255 ≤ 4096 }
+    ensures text { page.new ++ 10 ∷ [] ≡ page.old ++ item_line config.now item.now }
+    ensures long { length page.new ≤ length page.old + 255 }
 {
     match item {
         Logged::Unit(line) => push_unit(config, line, page),
         Logged::Core(entry) => push_entry(config, entry, page),
     }
+}
+
+/// Prints the line of an item.
+pub fn push_item(config: &Config, item: &Logged, page: &mut Page)
+    requires sound { IsSound config.now }
+    requires room { length page.old + 256 ≤ 4096 }
+    ensures { page.new ≡ page.old ++ item_line config.now item.now }
+{
+    push_item_words(config, item, page);
     page.push_byte(b'\n');
 }
 
-/// Prints the line of what a thread is at the end.
+/// Prints the line of what a thread is at the end without its line feed.
 #[tactic(auto, unfolding(flat_model::specs::Text::end_line))]
-pub fn push_end(config: &Config, t: ThreadId, end: &End, page: &mut Page)
+pub fn push_end_words(config: &Config, t: ThreadId, end: &End, page: &mut Page)
     requires sound { IsSound config.now }
-    requires room { length page.old + 256 ≤ 4096 }
-    ensures { page.new ≡ page.old ++ end_line config.now t.0 end.now }
+    requires room { length page.old + 255 ≤ 4096 }
+    ensures text { page.new ++ 10 ∷ [] ≡ page.old ++ end_line config.now t.0 end.now }
+    ensures long { length page.new ≤ length page.old + 255 }
 {
     page.push_bytes(b"thread ");
     push_thread(config, t, page);
@@ -310,5 +321,14 @@ pub fn push_end(config: &Config, t: ThreadId, end: &End, page: &mut Page)
     page.push_byte(b' ');
     page.push_decimal(end.steps);
     push_hex_words(&end.regs, page);
+}
+
+/// Prints the line of what a thread is at the end.
+pub fn push_end(config: &Config, t: ThreadId, end: &End, page: &mut Page)
+    requires sound { IsSound config.now }
+    requires room { length page.old + 256 ≤ 4096 }
+    ensures { page.new ≡ page.old ++ end_line config.now t.0 end.now }
+{
+    push_end_words(config, t, end, page);
     page.push_byte(b'\n');
 }

@@ -3,8 +3,10 @@
 
 mod candidates;
 mod items;
+mod lines;
 mod named;
 mod page;
+mod reading;
 mod writing;
 
 pub use items::{push_end, push_item, push_name, push_thread};
