@@ -1,11 +1,14 @@
+pub mod BadLines
 pub mod DecimalLemmas
 pub mod ItemsBack
 pub mod LineLemmas
+pub mod LoopLemmas
 pub mod NameLemmas
 pub mod NumberLemmas
 pub mod Printing
 pub mod ReadingLemmas
 pub mod SpacedLemmas
+pub mod StopLemmas
 pub mod ThreadsBack
 pub mod TypedBack
 pub mod WordLemmas

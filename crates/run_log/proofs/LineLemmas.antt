@@ -1,5 +1,5 @@
 -- The first line of some bytes is one item's line or one end's line at most.
-use Rattle.std.proofs.Common.{◌≡◌, ◌≢◌, ℕ, zero, suc, ◌+◌, ◌^◌, ◌<◌, ◌≤◌, Bool, true, false, List, [], ◌∷◌, ◌++◌, length, get_or, refl, ap, sym, ◌∙◌, arith, append_assoc, length-append}
+use Rattle.std.proofs.Common.{◌≡◌, ◌≢◌, ℕ, zero, suc, ◌+◌, ◌^◌, ◌<◌, ◌≤◌, Bool, true, false, List, [], ◌∷◌, ◌++◌, length, get_or, lit≤, refl, ap, sym, ◌∙◌, arith, append_assoc, length-append}
 use Rattle.std.specs.Prelude.{codes, map}
 use Rattle.std.specs.Fmt.{decimal}
 use Rattle.std.specs.List.{join_with_byte, list_all}
@@ -19,9 +19,11 @@ use Rattle.flat_model.specs.Sound.{IsSound}
 use Rattle.flat_model.specs.Text.{end_line, entry_words, hex_word, item_line, item_words, mode_text, thread_text, unit_words}
 use Rattle.run_log.specs.Candidates.{end_of, item_of, word_at, words_of}
 use Rattle.run_log.specs.Lines.{HasNoLine, IsParted}
+use Rattle.run_log.specs.Spaced.{spaced}
 use Rattle.run_log.specs.Stops.{HasNoEnd, HasNoItem, IsEndAt, IsEndOf, IsItemAt, IsItemOf, IsNoEnd, IsNoItem}
 use Rattle.run_log.specs.Typed.{IsTypedEnd, IsTypedItem}
 use Rattle.run_log.proofs.ItemsBack.{end_back, item_back}
+use Rattle.run_log.proofs.SpacedLemmas.{join_spaced}
 use Rattle.run_log.proofs.WordLemmas.{AllAbove, AreWords, join_above, words_of-join}
 use Rattle.run_log.proofs.WordsOfItems.{end_are_words, item_are_words}
 
@@ -60,25 +62,25 @@ no_feedless (x ∷ xs) r h = no_feedless xs r h.1
 abbrev pub end_words : Config → ℕ → End → List (List ℕ)
 end_words cfg t end = codes "thread" ∷ thread_text cfg (record { 0 = t }) ∷ mode_text end.mode ∷ decimal end.steps ∷ map hex_word end.regs
 
-item_body : Config → Logged → List ℕ
+pub item_body : Config → Logged → List ℕ
 item_body cfg i = join_with_byte 32 (item_words cfg i)
 
-end_body : Config → ℕ → End → List ℕ
+pub end_body : Config → ℕ → End → List ℕ
 end_body cfg t end = join_with_byte 32 (end_words cfg t end)
 
-item_line_is : (cfg : Config) (i : Logged) → item_line cfg i ≡ item_body cfg i ++ 10 ∷ []
+pub item_line_is : (cfg : Config) (i : Logged) → item_line cfg i ≡ item_body cfg i ++ 10 ∷ []
 unfolding item_line item_body
 item_line_is cfg i = refl
 
-end_line_is : (cfg : Config) (t : ℕ) (end : End) → end_line cfg t end ≡ end_body cfg t end ++ 10 ∷ []
+pub end_line_is : (cfg : Config) (t : ℕ) (end : End) → end_line cfg t end ≡ end_body cfg t end ++ 10 ∷ []
 unfolding end_line end_body
 end_line_is cfg t end = refl
 
-item_feedless : (cfg : Config) (i : Logged) → IsSound cfg → is_named_item cfg i ≡ true → IsTypedItem i → Feedless (item_body cfg i)
+pub item_feedless : (cfg : Config) (i : Logged) → IsSound cfg → is_named_item cfg i ≡ true → IsTypedItem i → Feedless (item_body cfg i)
 unfolding item_body
 item_feedless cfg i sound named typed = feedless_above (item_body cfg i) (join_above (item_words cfg i) (item_are_words cfg i sound named typed))
 
-end_feedless : (cfg : Config) (t : ℕ) (end : End) → IsSound cfg → t < 2 ^ 64 → IsTypedEnd end → Feedless (end_body cfg t end)
+pub end_feedless : (cfg : Config) (t : ℕ) (end : End) → IsSound cfg → t < 2 ^ 64 → IsTypedEnd end → Feedless (end_body cfg t end)
 unfolding end_body
 end_feedless cfg t end sound small typed = feedless_above (end_body cfg t end) (join_above (end_words cfg t end) (end_are_words cfg t end sound small typed))
 
@@ -96,18 +98,19 @@ record HasFirst (ws : List (List ℕ)) : Type 0 where
   pub others : List (List ℕ)
   pub are : ws ≡ first ∷ others
   pub other : bytes_eq (word_at ws 0) (codes "thread") ≡ false
+  pub long : 1 ≤ length first
 
 unit_has_first : (cfg : Config) (l : UnitLine) → HasFirst (unit_words cfg l)
-unit_has_first cfg (line.Switch b) = record { first = _; others = _; are = refl; other = refl }
-unit_has_first cfg (line.Rotate slot pair) = record { first = _; others = _; are = refl; other = refl }
-unit_has_first cfg line.Flush = record { first = _; others = _; are = refl; other = refl }
-unit_has_first cfg (line.Access kind size at verdict) = record { first = _; others = _; are = refl; other = refl }
+unit_has_first cfg (line.Switch b) = record { first = _; others = _; are = refl; other = refl; long = lit≤ tt }
+unit_has_first cfg (line.Rotate slot pair) = record { first = _; others = _; are = refl; other = refl; long = lit≤ tt }
+unit_has_first cfg line.Flush = record { first = _; others = _; are = refl; other = refl; long = lit≤ tt }
+unit_has_first cfg (line.Access kind size at verdict) = record { first = _; others = _; are = refl; other = refl; long = lit≤ tt }
 
 entry_has_first : (cfg : Config) (c : Choice) (r : Reply) → HasFirst (entry_words cfg c r)
-entry_has_first cfg (choice.Turn t room) r = record { first = _; others = _; are = refl; other = refl }
-entry_has_first cfg (choice.Start t ticket) r = record { first = _; others = _; are = refl; other = refl }
-entry_has_first cfg (choice.Idle t) r = record { first = _; others = _; are = refl; other = refl }
-entry_has_first cfg (choice.Ring l by) r = record { first = _; others = _; are = refl; other = refl }
+entry_has_first cfg (choice.Turn t room) r = record { first = _; others = _; are = refl; other = refl; long = lit≤ tt }
+entry_has_first cfg (choice.Start t ticket) r = record { first = _; others = _; are = refl; other = refl; long = lit≤ tt }
+entry_has_first cfg (choice.Idle t) r = record { first = _; others = _; are = refl; other = refl; long = lit≤ tt }
+entry_has_first cfg (choice.Ring l by) r = record { first = _; others = _; are = refl; other = refl; long = lit≤ tt }
 
 item_has_first : (cfg : Config) (i : Logged) → HasFirst (item_words cfg i)
 item_has_first cfg (item.Unit l) = unit_has_first cfg l
@@ -224,3 +227,18 @@ item_not_nil cfg i r e = absurd (omega (arith, ap length e, length-append (item_
 
 pub end_not_nil : (cfg : Config) (t : ℕ) (end : End) (r : List ℕ) → end_line cfg t end ++ r ≡ [] → ⊥
 end_not_nil cfg t end r e = absurd (omega (arith, ap length e, length-append (end_line cfg t end) r, ap length (end_line_is cfg t end), length-append (end_body cfg t end) (10 ∷ [])))
+
+-- a line has at least two bytes
+pub item_long : (cfg : Config) (i : Logged) → 2 ≤ length (item_line cfg i)
+unfolding item_body
+item_long cfg i =
+    let has = item_has_first cfg i in
+    let body : item_body cfg i ≡ has.first ++ spaced has.others = ap (join_with_byte 32) has.are ∙ join_spaced has.first has.others in
+    omega (arith, ap length (item_line_is cfg i), length-append (item_body cfg i) (10 ∷ []), ap length body, length-append has.first (spaced has.others), has.long)
+
+pub end_long : (cfg : Config) (t : ℕ) (end : End) → 2 ≤ length (end_line cfg t end)
+unfolding end_body
+end_long cfg t end =
+    let words = thread_text cfg (record { 0 = t }) ∷ mode_text end.mode ∷ decimal end.steps ∷ map hex_word end.regs in
+    let body : end_body cfg t end ≡ codes "thread" ++ spaced words = join_spaced (codes "thread") words in
+    omega (arith, ap length (end_line_is cfg t end), length-append (end_body cfg t end) (10 ∷ []), ap length body, length-append (codes "thread") (spaced words))

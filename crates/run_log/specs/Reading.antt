@@ -1,6 +1,8 @@
 -- Which bytes are the text of a log, and where other bytes go wrong.
 use Rattle.std.specs.Prelude.{◌≡◌, ℕ, zero, suc, ◌+◌, ◌-◌, ◌≤◌, nat_eq, List, [], ◌∷◌, ◌++◌, count_by, if◌then◌else◌}
 use Rattle.flat_model.specs.declared.logs.Log.{Log}
+use Rattle.flat_model.specs.declared.logs.LogErr.{LogErr}
+use Rattle.flat_model.specs.declared.logs.LogErr.TheVariants.{BadText, Memory}
 use Rattle.flat_model.specs.declared.parts.Config.{Config}
 use Rattle.flat_model.specs.Log.{IsNamed}
 use Rattle.flat_model.specs.Text.{text_of}
@@ -35,3 +37,8 @@ pub record IsFirstBadLine (cfg : Config) (bytes : List ℕ) (k : ℕ) : Type 0 w
   pub within : k ≤ line_count bytes + 1
   pub before : Begins cfg (first_lines (k - 1) bytes)
   pub bad : k ≤ line_count bytes → Begins cfg (first_lines k bytes) → ⊥
+
+-- what a failure says of the bytes: where they go wrong, or nothing
+abbrev pub IsCause : Config → List ℕ → LogErr → Type 0
+IsCause cfg bytes (BadText k) = IsFirstBadLine cfg bytes k
+IsCause cfg bytes Memory = Unit {0}

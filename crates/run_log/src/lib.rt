@@ -11,4 +11,5 @@ mod writing;
 
 pub use items::{push_end, push_item, push_name, push_thread};
 pub use page::Page;
+pub use reading::read_log;
 pub use writing::write_log;

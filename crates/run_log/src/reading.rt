@@ -1,8 +1,8 @@
-ghost use Rattle.std.specs.Prelude.{◌≡◌, ◌+◌, ◌*◌, ◌^◌, ◌<◌, ◌≤◌, ◌↔◌, [], ◌∷◌, ◌++◌, length, IfErr, IfOk, IfSome, IsNone, IsTrue};
+ghost use Rattle.std.specs.Prelude.{◌≡◌, ◌+◌, ◌*◌, ◌^◌, ◌<◌, ◌≤◌, ◌↔◌, [], ◌∷◌, ◌++◌, length, IfErr, IfOk, IfSome, IsNone, IsTrue, OnOk, ◌⊎◌};
 ghost use Rattle.flat_model.specs.Sound.{IsSound};
-ghost use Rattle.flat_model.specs.declared.logs.LogErr.TheVariants.{BadText, Memory};
+ghost use Rattle.flat_model.specs.declared.logs.LogErr.TheVariants.{Memory};
 ghost use Rattle.flat_model.specs.declared.logs.Log.{Log};
-ghost use Rattle.run_log.specs.Reading.{IsFirstBadLine, IsLogOf};
+ghost use Rattle.run_log.specs.Reading.{IsCause, IsLogOf};
 ghost use Rattle.flat_model.specs.Text.{end_line, item_line};
 ghost use Rattle.run_log.specs.Stops.{AreEndsOf, AreItemsOf, EndsFail, HasNoEnd, HasNoItem, IsEndAt, IsEndOf, IsItemAt, IsItemOf, IsNoEnd, IsNoItem};
 
@@ -102,4 +102,94 @@ fn next_end<'a>(
         },
         None => None,
     }
+}
+
+fn push<T: Drop>(list: &mut Vec<T>, value: T) -> Result<(), LogErr>
+    ensures ok { OnOk result (list.new.items ≡ list.old.items ++ value ∷ []) }
+    ensures err { IfErr result (λ e. e ≡ Memory) }
+{
+    list.push(value).map_err(|_| LogErr::Memory)
+}
+
+// Reads the lines of items for as long as they come, and gives what follows them.
+fn read_items<'a>(
+    config: &Config,
+    bytes: &'a [u8],
+    page: &mut Page,
+    items: &mut Vec<Logged>,
+) -> Result<&'a [u8], LogErr>
+    requires sound { IsSound config.now }
+    requires empty { items.old.items ≡ [] }
+    ensures ok { IfOk result (λ rest. AreItemsOf config.now bytes.now items.new.items rest.now) }
+    ensures stop { IfOk result (λ rest. HasNoItem config.now rest.now) }
+    ensures err { IfErr result (λ e. e ≡ Memory) }
+{
+    let mut rest = bytes;
+    'items: while let Some((item, after)) = next_item(config, rest, page) {
+        push(items, item)?;
+        rest = after;
+    }
+    Ok(rest)
+}
+
+// Reads the line of each thread's end, with `before` lines before the first, up to the end.
+fn read_ends(
+    config: &Config,
+    bytes: &[u8],
+    before: u32,
+    page: &mut Page,
+    ends: &mut Vec<End>,
+) -> Result<(), LogErr>
+    requires sound { IsSound config.now }
+    requires empty { ends.old.items ≡ [] }
+    requires short { 2 * before + length bytes.now < 2 ^ 32 }
+    ensures ok { OnOk result (AreEndsOf config.now bytes.now ends.new.items []) }
+    ensures all { OnOk result (length ends.new.items ≡ length config.now.threads) }
+    ensures err { IfErr result (EndsFail config.now bytes.now before) }
+{
+    let mut rest = bytes;
+    'ends: for t in 0..config.threads.len() {
+        match next_end(config, ThreadId(t as u8), rest, page) {
+            Some((end, after)) => {
+                push(ends, end)?;
+                rest = after;
+            }
+            None => {
+                return Err(LogErr::BadText {
+                    line: before + t as u32 + 1,
+                });
+            }
+        }
+    }
+    if rest.is_empty() {
+        Ok(())
+    } else {
+        Err(LogErr::BadText {
+            line: before + config.threads.len() as u32 + 1,
+        })
+    }
+}
+
+/// Reads the text of a log (docs/LOG.md).
+pub fn read_log(alloc: Global, config: &Config, bytes: &[u8]) -> Result<Log, LogErr>
+    requires sound { IsSound config.now }
+    requires short { length bytes.now < 2 ^ 32 }
+
+    // The log is named and its text is the bytes; of such a log there is one.
+    ensures ok { IfOk result (IsLogOf config.now bytes.now) }
+    ensures again { (log : Log) → IsLogOf config.now bytes.now log
+        → (result ≡ Ok log) ⊎ (result ≡ Err Memory) }
+
+    // Bad text is the answer exactly where there is none.
+    ensures err { IfErr result (IsCause config.now bytes.now) }
+{
+    let mut page = Page::new();
+    let mut items = Vec::new(alloc);
+    let rest = read_items(config, bytes, &mut page, &mut items)?;
+    let mut ends = Vec::new(alloc);
+    read_ends(config, rest, items.len() as u32, &mut page, &mut ends)?;
+    Ok(Log {
+        items: Items::from_vec(items),
+        ends: Items::from_vec(ends),
+    })
 }
