@@ -5,6 +5,7 @@ use Rattle.std.specs.Fmt.{decimal}
 use Rattle.std.specs.List.{AllByRecursion, list_all}
 use Rattle.std.proofs.lemmas.Bool.{ltb-true}
 use Rattle.std.proofs.lemmas.Bool.Decides.{nat_tests}
+use Rattle.addr_base.specs.declared.identity.Line.{Line}
 use Rattle.addr_base.specs.declared.identity.ThreadId.{ThreadId}
 use Rattle.addr_base.specs.declared.pairs.Verdict.{Verdict}
 use Rattle.addr_base.specs.declared.pairs.Verdict.TheVariants.{Granted, Denied}
@@ -162,3 +163,13 @@ pub end_are_words : (cfg : Config) (t : ℕ) (end : End) → IsSound cfg → t <
   → AreWords (codes "thread" ∷ thread_text cfg (record { 0 = t }) ∷ mode_text end.mode ∷ decimal end.steps ∷ map hex_word end.regs)
 end_are_words cfg t end sound small typed =
     (above_tested 32 (codes "thread") refl, (thread_word cfg (record { 0 = t }) sound small, (mode_word end.mode, (number_word end.steps (omega (arith, typed.steps)), hex_words end.regs))))
+
+-- the reply of a ring has no numbers
+done_typed : (r : Reply) → is_ring_reply r ≡ true → IsTypedReply r
+done_typed reply.Done named = tt
+done_typed _ named = absurd (cc)
+
+pub ring_typed : (cfg : Config) (l : Line) (by : ℕ) (c : Choice) (r : Reply) → c ≡ choice.Ring l by → is_named_choice cfg c r ≡ true → IsTypedReply r
+ring_typed cfg l by c r is named =
+    let at : is_named_choice cfg (choice.Ring l by) r ≡ true = ap (λ x. is_named_choice cfg x r) (sym is) ∙ named in
+    done_typed r (both_true (nat_lt l.0 64) (is_ring_reply r) at).1

@@ -3,6 +3,7 @@
 
 mod candidates;
 mod items;
+mod laws;
 mod lines;
 mod named;
 mod page;
@@ -10,6 +11,7 @@ mod reading;
 mod writing;
 
 pub use items::{push_end, push_item, push_name, push_thread};
+pub use laws::a_text_has_one_log;
 pub use page::Page;
 pub use reading::read_log;
 pub use writing::write_log;
