@@ -7,6 +7,7 @@ pub mod NameLemmas
 pub mod NumberLemmas
 pub mod Printing
 pub mod ReadingLemmas
+pub mod SampleLemmas
 pub mod SpacedLemmas
 pub mod StopLemmas
 pub mod ThreadsBack

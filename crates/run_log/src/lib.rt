@@ -8,6 +8,8 @@ mod lines;
 mod named;
 mod page;
 mod reading;
+#[cfg(test)]
+mod tests;
 mod writing;
 
 pub use items::{push_end, push_item, push_name, push_thread};
