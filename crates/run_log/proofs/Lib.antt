@@ -1,4 +1,16 @@
+pub mod BadLines
 pub mod DecimalLemmas
+pub mod ItemsBack
+pub mod LineLemmas
+pub mod LoopLemmas
 pub mod NameLemmas
+pub mod NumberLemmas
 pub mod Printing
+pub mod ReadingLemmas
+pub mod SampleLemmas
 pub mod SpacedLemmas
+pub mod StopLemmas
+pub mod ThreadsBack
+pub mod TypedBack
+pub mod WordLemmas
+pub mod WordsOfItems

@@ -1,6 +1,9 @@
 -- How a printer goes through a text by way of a page.
-use Rattle.std.proofs.Common.{◌≡◌, ℕ, List, [], ◌++◌, Option, Result, Ok, Err, sym, ap, ◌∙◌, append_assoc}
-use Rattle.std.proofs.lemmas.List.{append-nil}
+use Rattle.std.proofs.Common.{◌≡◌, ℕ, zero, suc, ◌+◌, ◌<◌, Bool, true, arith, List, [], ◌∷◌, ◌++◌, length, take, get_or, Option, Result, Ok, Err, sym, ap, ◌∙◌, append_assoc}
+use Rattle.std.proofs.lemmas.List.{append-nil, take_more}
+use Rattle.std.specs.List.{AllByRecursion, list_all}
+use Rattle.flat_model.proofs.NamedChoices.{both_true}
+use Rattle.flat_model.proofs.Elements.{each-append}
 use Rattle.std.specs.Prelude.{OnErr}
 use Rattle.io_edge.specs.Written.{Wrote, WrotePart}
 use Rattle.io_edge.proofs.Written.{wrote-more, wrote-part}
@@ -46,3 +49,13 @@ wrote-both {old} {mid} {now} first second page after one two =
     let start : Wrote old mid (first ++ second) ((page ++ second) ++ []) = rw append-nil (wrote-longer first second page one) in
     let whole : Wrote old now (first ++ second) (after ++ []) = wrote-page (page ++ second) after [] start two in
     rw append-nil at whole
+
+-- what holds of the first elements, and of one more
+pub each_more : {X : Type 0} (P : X → Type 0) (xs : List X) (i : ℕ) (d : X) → i < length xs → AllByRecursion P (take i xs) → P (get_or xs i d) → AllByRecursion P (take (i + 1) xs)
+each_more P xs i d below before here = rw (take_more xs i d below) (each-append P (take i xs) (get_or xs i d ∷ []) before (here, tt))
+
+-- what holds of each element holds at a place
+pub all_at : {X : Type 0} (p : X → Bool) (xs : List X) (i : ℕ) (d : X) → list_all p xs ≡ true → i < length xs → p (get_or xs i d) ≡ true
+all_at p [] i d all below = absurd (omega arith)
+all_at p (x ∷ xs) zero d all below = (both_true (p x) (list_all p xs) all).0
+all_at p (x ∷ xs) (suc i) d all below = all_at p xs i d (both_true (p x) (list_all p xs) all).1 (omega arith)

@@ -1,1 +1,7 @@
+pub mod Candidates
+pub mod Lines
+pub mod Reading
+pub mod Sample
 pub mod Spaced
+pub mod Stops
+pub mod Typed

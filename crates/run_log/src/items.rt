@@ -1,10 +1,13 @@
-ghost use Rattle.std.specs.Prelude.{◌≡◌, ℕ, ◌+◌, ◌-◌, ◌*◌, ◌≤◌, List, [], ◌∷◌, ◌++◌, length, map, take};
+ghost use Rattle.std.specs.Prelude.{◌≡◌, ℕ, true, ◌+◌, ◌-◌, ◌*◌, ◌≤◌, List, [], ◌∷◌, ◌++◌, length, map, take};
 ghost use Rattle.std.specs.Fmt.{decimal};
+ghost use Rattle.std.specs.List.{AllByRecursion};
 ghost use Rattle.addr_base.specs.declared.identity.ThreadId.{ThreadId};
+ghost use Rattle.flat_model.specs.Log.{is_named_choice, is_named_item};
 ghost use Rattle.flat_model.specs.Sound.{IsSound};
 ghost use Rattle.flat_model.specs.Step.{home_of};
 ghost use Rattle.flat_model.specs.Text.{box_name, end_line, entry_words, first_thread, flaw_text, hex_word, item_line, kind_text, line_of, mode_text, reply_words, thread_text, ticket_text, unit_words, verdict_words};
 ghost use Rattle.run_log.specs.Spaced.{spaced};
+ghost use Rattle.run_log.specs.Typed.{Fits8, Fits32, IsTypedChoice, IsTypedEnd, IsTypedFrames, IsTypedItem, IsTypedLine, IsTypedReply, IsTypedStarted};
 
 use crate::page::Page;
 use flat_model::{
@@ -12,7 +15,7 @@ use flat_model::{
     Ticket, UnitLine, Verdict,
 };
 
-fn home_of(config: &Config, t: ThreadId) -> BoxId
+pub fn home_of(config: &Config, t: ThreadId) -> BoxId
     ensures { result ≡ home_of config.now t.0 }
 {
     match config.threads.as_slice().get(usize::from(t.0)) {
@@ -41,7 +44,7 @@ pub fn push_name(config: &Config, b: BoxId, page: &mut Page)
     page.push_bytes(box_name(config, b));
 }
 
-fn first_thread(config: &Config, b: BoxId) -> u32
+pub fn first_thread(config: &Config, b: BoxId) -> u32
     ensures { result ≡ first_thread config.now b.0 }
 {
     match config.boxes.as_slice().get(usize::from(b.0)) {
@@ -69,6 +72,7 @@ fn push_ticket(config: &Config, ticket: Ticket, page: &mut Page)
     requires room { length page.old + 38 ≤ 4096 }
     ensures text { page.new ≡ page.old ++ ticket_text config.now ticket }
     ensures long { length page.new ≤ length page.old + 38 }
+    ensures typed { Fits32 ticket.seq }
 {
     push_thread(config, ticket.thread, page);
     page.push_byte(b'#');
@@ -143,6 +147,7 @@ fn push_hex_words(numbers: &[u32], page: &mut Page)
     requires { length page.old + 11 * length numbers.now ≤ 4096 }
     ensures text { page.new ≡ page.old ++ spaced (map hex_word numbers.now) }
     ensures long { length page.new ≡ length page.old + 11 * length numbers.now }
+    ensures typed { AllByRecursion Fits32 numbers.now }
 {
     for n in numbers {
         page.push_byte(b' ');
@@ -161,19 +166,32 @@ fn push_frames(numbers: &[u8], page: &mut Page)
     }
 }
 
+fn push_first_frames(list: &[u8], n: u8, page: &mut Page)
+    requires few { length list.now ≤ 16 }
+    requires room { length page.old + 176 ≤ 4096 }
+    ensures text { page.new ≡ page.old ++ spaced (map decimal (take n list.now)) }
+    ensures long { length page.new ≤ length page.old + 176 }
+    ensures typed { AllByRecursion Fits8 list.now }
+{
+    let n = usize::from(n).min(list.len());
+    push_frames(&list[..n], page);
+}
+
 fn push_given(frames: &Frames, page: &mut Page)
     requires { length page.old + 183 ≤ 4096 }
     ensures text { page.new ≡ page.old ++ spaced (reply_words (Reply.Given frames.now)) }
     ensures long { length page.new ≤ length page.old + 183 }
+    ensures typed { IsTypedFrames frames.now }
 {
     page.push_bytes(b" frames");
-    push_frames(&frames.list[..usize::from(frames.n.min(16))], page);
+    push_first_frames(&frames.list, frames.n, page);
 }
 
 fn push_started(started: &Started, page: &mut Page)
     requires { length page.old + 58 ≤ 4096 }
     ensures text { page.new ≡ page.old ++ spaced (reply_words (Reply.Begun started.now)) }
     ensures long { length page.new ≤ length page.old + 58 }
+    ensures typed { IsTypedStarted started.now }
 {
     page.push_bytes(b" ok ");
     page.push_hex(started.function);
@@ -184,6 +202,7 @@ fn push_reply(reply: &Reply, page: &mut Page)
     requires { length page.old + 183 ≤ 4096 }
     ensures text { page.new ≡ page.old ++ spaced (reply_words reply.now) }
     ensures long { length page.new ≤ length page.old + 183 }
+    ensures typed { IsTypedReply reply.now }
 {
     match reply {
         Reply::Ended => page.push_bytes(b" ended"),
@@ -222,6 +241,7 @@ fn push_unit(config: &Config, line: &UnitLine, page: &mut Page)
     requires room { length page.old + 68 ≤ 4096 }
     ensures text { page.new ++ 10 ∷ [] ≡ page.old ++ line_of (unit_words config.now line.now) }
     ensures long { length page.new ≤ length page.old + 68 }
+    ensures typed { IsTypedLine line.now }
 {
     match line {
         UnitLine::Switch(b) => {
@@ -254,6 +274,8 @@ fn push_entry(config: &Config, entry: &Entry, page: &mut Page)
     requires room { length page.old + 255 ≤ 4096 }
     ensures text { page.new ++ 10 ∷ [] ≡ page.old ++ line_of (entry_words config.now entry.now.choice entry.now.reply) }
     ensures long { length page.new ≤ length page.old + 255 }
+    ensures choice { IsTypedChoice entry.now.choice }
+    ensures reply { is_named_choice config.now entry.now.choice entry.now.reply ≡ true → IsTypedReply entry.now.reply }
 {
     match entry.choice {
         Choice::Turn { t, room: _ } => {
@@ -282,26 +304,40 @@ fn push_entry(config: &Config, entry: &Entry, page: &mut Page)
     }
 }
 
-/// Prints the line of an item.
+/// Prints the line of an item without its line feed.
 #[tactic(auto, unfolding(flat_model::specs::Text::item_line))]
-pub fn push_item(config: &Config, item: &Logged, page: &mut Page)
+pub fn push_item_words(config: &Config, item: &Logged, page: &mut Page)
     requires sound { IsSound config.now }
-    requires room { length page.old + 256 ≤ 4096 }
-    ensures { page.new ≡ page.old ++ item_line config.now item.now }
+    requires room { length page.old + 255 ≤ 4096 }
+    ensures text { page.new ++ 10 ∷ [] ≡ page.old ++ item_line config.now item.now }
+    ensures long { length page.new ≤ length page.old + 255 }
+    ensures typed { is_named_item config.now item.now ≡ true → IsTypedItem item.now }
 {
     match item {
         Logged::Unit(line) => push_unit(config, line, page),
         Logged::Core(entry) => push_entry(config, entry, page),
     }
+}
+
+/// Prints the line of an item.
+pub fn push_item(config: &Config, item: &Logged, page: &mut Page)
+    requires sound { IsSound config.now }
+    requires room { length page.old + 256 ≤ 4096 }
+    ensures text { page.new ≡ page.old ++ item_line config.now item.now }
+    ensures typed { is_named_item config.now item.now ≡ true → IsTypedItem item.now }
+{
+    push_item_words(config, item, page);
     page.push_byte(b'\n');
 }
 
-/// Prints the line of what a thread is at the end.
+/// Prints the line of what a thread is at the end without its line feed.
 #[tactic(auto, unfolding(flat_model::specs::Text::end_line))]
-pub fn push_end(config: &Config, t: ThreadId, end: &End, page: &mut Page)
+pub fn push_end_words(config: &Config, t: ThreadId, end: &End, page: &mut Page)
     requires sound { IsSound config.now }
-    requires room { length page.old + 256 ≤ 4096 }
-    ensures { page.new ≡ page.old ++ end_line config.now t.0 end.now }
+    requires room { length page.old + 255 ≤ 4096 }
+    ensures text { page.new ++ 10 ∷ [] ≡ page.old ++ end_line config.now t.0 end.now }
+    ensures long { length page.new ≤ length page.old + 255 }
+    ensures typed { IsTypedEnd end.now }
 {
     page.push_bytes(b"thread ");
     push_thread(config, t, page);
@@ -310,5 +346,15 @@ pub fn push_end(config: &Config, t: ThreadId, end: &End, page: &mut Page)
     page.push_byte(b' ');
     page.push_decimal(end.steps);
     push_hex_words(&end.regs, page);
+}
+
+/// Prints the line of what a thread is at the end.
+pub fn push_end(config: &Config, t: ThreadId, end: &End, page: &mut Page)
+    requires sound { IsSound config.now }
+    requires room { length page.old + 256 ≤ 4096 }
+    ensures text { page.new ≡ page.old ++ end_line config.now t.0 end.now }
+    ensures typed { IsTypedEnd end.now }
+{
+    push_end_words(config, t, end, page);
     page.push_byte(b'\n');
 }

@@ -42,6 +42,20 @@ impl Page {
         }
     }
 
+    /// What was printed.
+    pub fn as_slice(&self) -> &[u8]
+        ensures { result.now ≡ self.now }
+    {
+        self.bytes.as_slice()
+    }
+
+    /// Drops what was printed.
+    pub fn clear(&mut self)
+        ensures { self.new ≡ [] }
+    {
+        self.bytes.clear();
+    }
+
     /// Prints one byte.
     pub fn push_byte(&mut self, byte: u8)
         requires { length self.old < PAGE }

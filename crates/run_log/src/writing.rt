@@ -1,11 +1,12 @@
-ghost use Rattle.std.specs.Prelude.{◌≡◌, ◌≤◌, ◌++◌, length, IsErr, OnErr, OnOk};
+ghost use Rattle.std.specs.Prelude.{◌≡◌, true, ◌≤◌, ◌++◌, length, IsErr, OnErr, OnOk};
 ghost use Rattle.std.specs.Io.KnownBytes.{append_known};
-ghost use Rattle.std.specs.List.{flat_map};
-ghost use Rattle.flat_model.specs.Log.{IsNamed};
+ghost use Rattle.std.specs.List.{AllByRecursion, flat_map, list_all};
+ghost use Rattle.flat_model.specs.Log.{IsNamed, is_named_item};
 ghost use Rattle.flat_model.specs.Sound.{IsSound};
 ghost use Rattle.flat_model.specs.Text.{end_lines, item_line, text_of};
 ghost use Rattle.io_edge.specs.Counts.{Rose};
 ghost use Rattle.io_edge.specs.Written.{Wrote, WrotePart};
+ghost use Rattle.run_log.specs.Typed.{IsTyped, IsTypedEnd, IsTypedItem};
 
 use crate::items::{push_end, push_item};
 use crate::page::Page;
@@ -18,9 +19,11 @@ fn put_items<K: Sink>(
     page: &mut Page,
     sink: &mut K,
 ) -> Result<(), WriteErr>
-    requires { IsSound config.now }
+    requires sound { IsSound config.now }
+    requires named { list_all (is_named_item config.now) items.now ≡ true }
     ensures ok { OnOk result (Wrote (K.written sink.old) (K.written sink.new)
         (page.old ++ flat_map (item_line config.now) items.now) page.new) }
+    ensures typed { OnOk result (AllByRecursion IsTypedItem items.now) }
     ensures err { OnErr result (WrotePart (K.written sink.old) (K.written sink.new)
         (page.old ++ flat_map (item_line config.now) items.now)) }
     ensures fault_only { IsErr result → Rose (K.faults sink.old) (K.faults sink.new) }
@@ -43,6 +46,7 @@ fn put_ends<K: Sink>(
     requires few { length ends.now ≤ 16 }
     ensures ok { OnOk result (Wrote (K.written sink.old) (K.written sink.new)
         (page.old ++ end_lines config.now 0 ends.now) page.new) }
+    ensures typed { OnOk result (AllByRecursion IsTypedEnd ends.now) }
     ensures err { OnErr result (WrotePart (K.written sink.old) (K.written sink.new)
         (page.old ++ end_lines config.now 0 ends.now)) }
     ensures fault_only { IsErr result → Rose (K.faults sink.old) (K.faults sink.new) }
@@ -62,6 +66,10 @@ pub fn write_log<K: Sink>(config: &Config, log: &Log, sink: &mut K) -> Result<()
 
     ensures ok { OnOk result (K.written sink.new
         ≡ append_known (K.written sink.old) (text_of config.now log.now)) }
+
+    // So `read_log` of what was appended gives this log, or wants memory.
+    ensures typed { OnOk result (IsTyped log.now) }
+
     ensures err { OnErr result (WrotePart (K.written sink.old) (K.written sink.new)
         (text_of config.now log.now)) }
 

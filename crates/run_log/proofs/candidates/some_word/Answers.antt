@@ -1,0 +1,10 @@
+use Rattle.std.proofs.Common.{rules, tests}
+use Rattle.std.proofs.lemmas.Iterator.Consumers.{nth_from_yields_List}
+use Rattle.std.proofs.lemmas.Iterator.Splits.{YieldsList-from_slice_split}
+use Rattle.run_log.specs.Candidates.{is_space}
+use Rattle.run_log.proofs.candidates.some_word.Goals as goal
+
+pub returns : goal.returns
+returns c =
+    nth_from_yields_List c.nth.result c.nth.new.self c.args.place c.nth.ensures.ran
+    (YieldsList-from_slice_split _ is_space c.args.line.now (search rules) c.split.ensures.done c.split.ensures.closure (λ x b q k. search (rules, tests)))
