@@ -36,8 +36,8 @@ fn is_flash(flash: &Range) -> bool
 fn is_bank(bank: &Range) -> bool
     ensures { result ≡ is_bank bank.now }
 {
-    let is_even = bank.base % 32 == 0 && bank.len % 32 == 0;
-    is_even && 32 <= bank.len && bank.len <= 1048576 && ends_in_reach(bank)
+    let is_tiled = bank.base % 32 == 0 && bank.len % 32 == 0;
+    is_tiled && 32 <= bank.len && bank.len <= 1048576 && ends_in_reach(bank)
 }
 
 fn is_sram(flash: &Range, sram: &Range) -> bool
