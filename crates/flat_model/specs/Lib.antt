@@ -7,6 +7,7 @@ pub mod Calls
 pub mod Cells
 pub mod Cover
 pub mod Decision
+pub mod First
 pub mod Greatest
 pub mod Interrupts
 pub mod Items

@@ -1,0 +1,3 @@
+pub use Rattle.flat_model.specs.Placing
+pub mod Naming
+pub mod Refusals

@@ -1,0 +1,109 @@
+-- What names stand for: boxes, and the words of a script.
+use Rattle.std.specs.Prelude.{ℕ, zero, suc, ◌+◌, ◌%◌, ◌^◌, Bool, ◌&&◌, not, nat_eq, is_none, is_some, Option, Some, None, List, [], ◌∷◌, ◌++◌, map, length, codes, find, if◌then◌else◌, unwrap_or}
+use Rattle.std.specs.Fmt.{decimal}
+use Rattle.std.specs.List.{flat_map, list_all, list_any, position_from}
+use Rattle.std.specs.Option.{option_map, option_or}
+use Rattle.std.specs.Str.{bytes_eq}
+use Rattle.addr_base.specs.Range.{holds_bytes}
+use Rattle.addr_base.specs.declared.identity.Line.{Line}
+use Rattle.addr_base.specs.declared.identity.ThreadId.{ThreadId}
+use Rattle.flat_model.specs.declared.boards.Board.{Board}
+use Rattle.flat_model.specs.declared.parts.DevicePart.{DevicePart}
+use Rattle.flat_model.specs.declared.parts.IrqPart.{IrqPart}
+use Rattle.flat_model.specs.declared.parts.ScriptWord.{ScriptWord}
+use Rattle.flat_model.specs.declared.parts.ScriptWord.TheVariants as word
+use Rattle.flat_model.specs.declared.refusals.Refused.{Refused}
+use Rattle.flat_model.specs.declared.refusals.Refused.TheVariants as refused
+use Rattle.flat_model.specs.declared.refusals.Spot.TheVariants as spot
+use Rattle.flat_model.specs.declared.texts.BoxText.{BoxText}
+use Rattle.flat_model.specs.declared.texts.GateTexts.{GateTexts}
+use Rattle.flat_model.specs.declared.texts.RegText.{RegText}
+use Rattle.flat_model.specs.declared.texts.RpcText.{RpcText}
+use Rattle.flat_model.specs.First.{refuse_if}
+use Rattle.flat_model.specs.Interrupts.{has_line}
+use Rattle.acl_resolver.specs.Refusals.{first_numbered}
+
+-- the number of the box with this name
+abbrev pub box_named : List BoxText → List ℕ → Option ℕ
+box_named boxes name = position_from (λ b. bytes_eq b.name name) 0 boxes
+
+-- whether each of the names is a box's
+abbrev pub all_named : List BoxText → List (List ℕ) → Bool
+all_named boxes names = list_all (λ name. is_some (box_named boxes name)) names
+
+-- the set of the boxes, from the number i on, whose names are among these: bit i for box i
+abbrev pub set_of_names : ℕ → List BoxText → List (List ℕ) → ℕ
+set_of_names i [] names = 0
+set_of_names i (b ∷ boxes) names =
+    (if list_any (bytes_eq b.name) names then 2 ^ i else 0) + set_of_names (i + 1) boxes names
+
+-- whether the register gateway is at a multiple of 4 inside the peripherals
+abbrev pub is_register_address : Board → ℕ → Bool
+is_register_address board at = nat_eq (at % 4) 0 && holds_bytes board.peripherals at 4
+
+-- a register gateway at a wrong address, or with a name that is no box's
+abbrev pub bad_register : Board → List BoxText → List RegText → Option Refused
+bad_register board boxes registers =
+    first_numbered
+      (λ k gate. refuse_if (not (is_register_address board gate.at && all_named boxes gate.boxes)) (refused.BadGateway (spot.Register k)))
+      0 registers
+
+-- a gateway for calls with a caller that is no box
+abbrev pub bad_callers : List BoxText → List RpcText → Option Refused
+bad_callers boxes gateways =
+    first_numbered (λ k gate. refuse_if (not (all_named boxes gate.callers)) (refused.BadGateway (spot.Gateway k))) 0 gateways
+
+-- a gateway of either kind that is bad, the registers first
+abbrev pub bad_gateway : Board → List BoxText → GateTexts → Option Refused
+bad_gateway board boxes gates = option_or (bad_register board boxes gates.registers) (bad_callers boxes gates.gateways)
+
+-- a gateway whose target is no box
+abbrev pub no_server : List BoxText → List RpcText → Option Refused
+no_server boxes gateways =
+    first_numbered (λ k gate. refuse_if (is_none (box_named boxes gate.target)) (refused.NoServer k)) 0 gateways
+
+-- whether a box names the line
+abbrev pub is_line_of_some : List BoxText → ℕ → Bool
+is_line_of_some boxes line = list_any (λ b. has_line line b.irqs) boxes
+
+-- a device that rings a line that no box owns
+abbrev pub bad_device : List BoxText → List DevicePart → Option Refused
+bad_device boxes devices =
+    first_numbered
+      (λ d device. refuse_if (not (list_all (λ line. is_line_of_some boxes line.0) device.rings)) (refused.BadDevice d))
+      0 devices
+
+-- a spelled word of a script, and what it stands for
+pub record Spelled : Type 0 where
+  pub text : List ℕ
+  pub word : ScriptWord
+
+-- the words of n threads of a box with this name, the first with index k in the box and number t
+abbrev pub thread_words : List ℕ → ℕ → ℕ → ℕ → List Spelled
+thread_words name k t zero = []
+thread_words name k t (suc n) =
+    record { text = name ++ codes "." ++ decimal k; word = word.Thread (record { 0 = t }) }
+    ∷ thread_words name (k + 1) (t + 1) n
+
+-- the words of the threads of boxes, numbered from t on
+abbrev pub threads_words : ℕ → List BoxText → List Spelled
+threads_words t [] = []
+threads_words t (b ∷ boxes) =
+    thread_words b.name 0 t (length b.threads) ++ threads_words (t + length b.threads) boxes
+
+-- the word that rings an interrupt line
+abbrev pub ring_word : IrqPart → Spelled
+ring_word irq = record { text = codes "ring " ++ decimal irq.line.0; word = word.Ring irq.line }
+
+-- the words that a script may have: those of threads, and those of lines that boxes own
+abbrev pub script_words : List BoxText → List Spelled
+script_words boxes = threads_words 0 boxes ++ flat_map (λ b. map ring_word b.irqs) boxes
+
+-- what a word of a script stands for
+abbrev pub word_of_text : List Spelled → List ℕ → Option ScriptWord
+word_of_text table text = option_map (λ s. s.word) (find (λ s. bytes_eq s.text text) table)
+
+-- a script word that stands for nothing
+abbrev pub bad_script : List BoxText → List (List ℕ) → Option Refused
+bad_script boxes script =
+    first_numbered (λ at text. refuse_if (is_none (word_of_text (script_words boxes) text)) (refused.BadScript at)) 0 script

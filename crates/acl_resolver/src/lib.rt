@@ -1,0 +1,9 @@
+//! Resolves a firmware's parts to its configuration, or to the first reason why it is refused.
+#![tactic(auto)]
+
+mod clashes;
+mod grants;
+mod lines;
+mod placing;
+
+pub use flat_model::Config;
