@@ -1,0 +1,9 @@
+pub mod Capped
+pub mod ValidLemmas
+pub mod StepLemmas
+pub mod DecimalLemmas
+pub mod NumbersBack
+pub mod WordsBack
+pub mod RowsBack
+pub mod ReadBack
+pub mod ProgramLemmas
