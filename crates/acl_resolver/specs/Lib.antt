@@ -1,3 +1,4 @@
 pub use Rattle.flat_model.specs.Placing
 pub mod Naming
 pub mod Refusals
+pub mod Resolve

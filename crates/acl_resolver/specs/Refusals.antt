@@ -1,7 +1,7 @@
 -- The refusals of a configuration that its parts are resolved to, each the first of its kind.
-use Rattle.std.specs.Prelude.{ℕ, ◌+◌, ◌-◌, ◌*◌, ◌/◌, ◌%◌, Bool, true, false, ◌&&◌, ◌||◌, not, nat_eq, nat_le, nat_lt, is_some, is_none, max, min, unwrap_or, Option, Some, None, List, [], ◌∷◌, ◌++◌, map, if◌then◌else◌}
-use Rattle.std.specs.List.{list_all, list_any, position_from}
-use Rattle.std.specs.Option.{option_or}
+use Rattle.std.specs.Prelude.{ℕ, ◌+◌, ◌-◌, ◌*◌, ◌/◌, ◌%◌, Bool, ◌&&◌, ◌||◌, not, nat_eq, nat_le, nat_lt, is_none, max, unwrap_or, Option, Some, None, List, [], ◌∷◌, ◌++◌, if◌then◌else◌}
+use Rattle.std.specs.List.{list_any}
+use Rattle.std.specs.Option.{option_and_then, option_or}
 use Rattle.addr_base.specs.declared.ranges.Range.{Range}
 use Rattle.addr_base.specs.Powers.{round_down, round_up}
 use Rattle.addr_base.specs.Range.{end_of, holds_bytes, overlap}
@@ -14,6 +14,7 @@ use Rattle.flat_model.specs.declared.texts.GrantText.{GrantText}
 use Rattle.flat_model.specs.declared.texts.Round.{Round}
 use Rattle.flat_model.specs.declared.texts.Round.TheVariants as round
 use Rattle.flat_model.specs.First.{first_after, first_index, first_of, number, refuse_if}
+use Rattle.flat_model.specs.Interrupts.{has_line}
 use Rattle.flat_model.specs.Placing.{limit_of}
 
 -- the length of own memory for a size: the least power of two at or above it and 256
@@ -45,10 +46,9 @@ no_room limit start i (b ∷ boxes) =
     if nat_lt limit (end_of (own_after start b.size)) then Some (refused.NoRoom (number i))
     else no_room limit (end_of (own_after start b.size)) (i + 1) boxes
 
--- a base and a length where there is a length that divides the base
-abbrev pub range_at_multiple : ℕ → Option ℕ → Option Range
-range_at_multiple base None = None
-range_at_multiple base (Some len) = if nat_eq (base % len) 0 then Some (record { base = base; len = len }) else None
+-- a base and a length where the length divides the base
+abbrev pub range_at_multiple : ℕ → ℕ → Option Range
+range_at_multiple base len = if nat_eq (base % len) 0 then Some (record { base = base; len = len }) else None
 
 -- a base and a length that are multiples of 32, the length not 0
 abbrev pub range_as_written : ℕ → ℕ → Option Range
@@ -59,8 +59,8 @@ range_as_written base len =
 -- the range of a grant once it is rounded, where its rule lets it be
 abbrev pub rounded_by : Round → ℕ → ℕ → Option Range
 rounded_by round.Plain base len = range_as_written base len
-rounded_by round.Up base len = range_at_multiple base (round_up len)
-rounded_by round.Down base len = range_at_multiple base (round_down len)
+rounded_by round.Up base len = option_and_then (range_at_multiple base) (round_up len)
+rounded_by round.Down base len = option_and_then (range_at_multiple base) (round_down len)
 
 -- the range of a grant once it is rounded
 abbrev pub rounded : GrantText → Option Range
@@ -75,9 +75,18 @@ abbrev pub first_numbered : {A : Type 0} → (ℕ → A → Option Refused) → 
 first_numbered f i [] = None
 first_numbered f i (x ∷ xs) = option_or (f (number i) x) (first_numbered f (i + 1) xs)
 
+-- the first answer that f gives along the list, behind those items before it
+abbrev pub first_behind : {A : Type 0} → (List A → ℕ → A → Option Refused) → List A → ℕ → List A → Option Refused
+first_behind f earlier i [] = None
+first_behind f earlier i (x ∷ xs) = option_or (f earlier (number i) x) (first_behind f (earlier ++ x ∷ []) (i + 1) xs)
+
+-- the grant, where its rounding rule fails
+abbrev pub bad_grant_at : ℕ → ℕ → GrantText → Option Refused
+bad_grant_at i j grant = refuse_if (is_none (rounded grant)) (refused.BadGrant i j)
+
 -- a grant of a box whose rounding rule fails
 abbrev pub bad_grant_of : ℕ → BoxText → Option Refused
-bad_grant_of i b = first_numbered (λ j grant. refuse_if (is_none (rounded grant)) (refused.BadGrant i j)) 0 b.grants
+bad_grant_of i b = first_numbered (bad_grant_at i) 0 b.grants
 
 -- a grant whose rounding rule fails
 abbrev pub bad_grant : List BoxText → Option Refused
@@ -98,12 +107,14 @@ common_behind board boxes = record {
 abbrev pub is_grantable : Board → Range → Range → Bool
 is_grantable board common range = is_inside range board.peripherals || is_inside range common
 
+-- the grant, where it is rounded to neither the peripherals nor the common part
+abbrev pub outside_at : Board → Range → ℕ → ℕ → GrantText → Option Refused
+outside_at board common i j grant =
+    refuse_if (not (is_grantable board common (rounded_range grant))) (refused.GrantOutside i j)
+
 -- a rounded grant of a box that is neither in the peripherals nor in the common part
 abbrev pub outside_of : Board → Range → ℕ → BoxText → Option Refused
-outside_of board common i b =
-    first_numbered
-      (λ j grant. refuse_if (not (is_grantable board common (rounded_range grant))) (refused.GrantOutside i j))
-      0 b.grants
+outside_of board common i b = first_numbered (outside_at board common i) 0 b.grants
 
 -- a rounded grant that is neither in the peripherals nor in the common part
 abbrev pub grant_outside : Board → List BoxText → Option Refused
@@ -143,35 +154,39 @@ abbrev pub clash_with : ℕ → Option ℕ → Option Refused
 clash_with second None = None
 clash_with second (Some first) = Some (refused.Clash first second)
 
+-- the clash of the grant, of a box with this number, with one of these boxes
+abbrev pub clash_at : List BoxText → ℕ → GrantText → Option Refused
+clash_at earlier i grant = clash_with i (first_index (clashes_in grant) 0 earlier)
+
 -- the first grant of a box that clashes with one of these boxes, and the least of them
 abbrev pub clash_of : List BoxText → ℕ → BoxText → Option Refused
-clash_of earlier i b = first_of (λ grant. clash_with i (first_index (clashes_in grant) 0 earlier)) b.grants
-
--- the first clash of boxes, from the number i on, with those before them
-abbrev pub clash_after : List BoxText → ℕ → List BoxText → Option Refused
-clash_after earlier i [] = None
-clash_after earlier i (b ∷ boxes) = option_or (clash_of earlier (number i) b) (clash_after (earlier ++ b ∷ []) (i + 1) boxes)
+clash_of earlier i b = first_of (clash_at earlier i) b.grants
 
 -- the first grant that clashes with an earlier box's, and the least such box
 abbrev pub clash : List BoxText → Option Refused
-clash boxes = clash_after [] 0 boxes
+clash boxes = first_behind clash_of [] 0 boxes
 
--- whether an interrupt line stands among these
-abbrev pub is_among : List IrqPart → IrqPart → Bool
-is_among earlier irq = list_any (λ other. nat_eq other.line.0 irq.line.0) earlier
+-- whether a box names the line
+abbrev pub is_line_of : ℕ → BoxText → Bool
+is_line_of line b = has_line line b.irqs
+
+-- whether one of the boxes names the line
+abbrev pub is_line_of_some : List BoxText → ℕ → Bool
+is_line_of_some boxes line = list_any (is_line_of line) boxes
+
+-- whether the line was named in one of these boxes, or in its own box among these
+abbrev pub is_taken : List BoxText → List IrqPart → IrqPart → Bool
+is_taken earlier before irq = is_line_of_some earlier irq.line.0 || has_line irq.line.0 before
 
 -- the refusal of the line with this number, if there is one
 abbrev pub line_taken_at : ℕ → Option ℕ → Option Refused
 line_taken_at i None = None
 line_taken_at i (Some j) = Some (refused.LineTaken i j)
 
--- the first line of boxes, from the number i on, that was named before
-abbrev pub line_taken_after : List IrqPart → ℕ → List BoxText → Option Refused
-line_taken_after earlier i [] = None
-line_taken_after earlier i (b ∷ boxes) =
-    option_or (line_taken_at (number i) (first_after is_among 0 earlier b.irqs))
-      (line_taken_after (earlier ++ b.irqs) (i + 1) boxes)
+-- a line of a box that was named earlier, in this or another box
+abbrev pub line_taken_of : List BoxText → ℕ → BoxText → Option Refused
+line_taken_of earlier i b = line_taken_at i (first_after (is_taken earlier) 0 [] b.irqs)
 
 -- a line that was named earlier, in this or another box
 abbrev pub line_taken : List BoxText → Option Refused
-line_taken boxes = line_taken_after [] 0 boxes
+line_taken boxes = first_behind line_taken_of [] 0 boxes

@@ -1,7 +1,6 @@
-ghost use Rattle.std.specs.Prelude.{◌≡◌, ◌<◌, ◌≤◌, drop, length, take};
-ghost use Rattle.std.specs.List.{list_any};
-ghost use Rattle.flat_model.specs.First.{first_after, first_index, first_of};
-ghost use Rattle.acl_resolver.specs.Refusals.{clash, clash_of, clash_with, clashes_in, do_clash, do_overlap, overlaps_one, self_overlap, self_overlap_of};
+ghost use Rattle.std.specs.Prelude.{◌≡◌, []};
+ghost use Rattle.flat_model.specs.First.{first_after, first_index};
+ghost use Rattle.acl_resolver.specs.Refusals.{clash, clash_at, clash_of, clashes_in, do_clash, do_overlap, overlaps_one, self_overlap, self_overlap_of};
 
 use crate::grants::rounded_range;
 use crate::placing::numbered;
@@ -38,16 +37,23 @@ fn first_overlap(grants: &[GrantText]) -> Option<u32>
     None
 }
 
+// A grant of a box that overlaps an earlier one.
+fn self_overlap_of(i: u32, part: &BoxText) -> Option<Refused>
+    ensures { result ≡ self_overlap_of i part.now }
+{
+    match first_overlap(part.grants.as_slice()) {
+        Some(grant) => Some(Refused::SelfOverlap { at_box: i, grant }),
+        None => None,
+    }
+}
+
 /// A grant that overlaps an earlier one of its box.
 pub fn self_overlap(boxes: &[BoxText]) -> Option<Refused>
     ensures { result ≡ self_overlap boxes.now }
 {
     for (i, part) in boxes.iter().enumerate() {
-        if let Some(grant) = first_overlap(part.grants.as_slice()) {
-            return Some(Refused::SelfOverlap {
-                at_box: numbered(i),
-                grant,
-            });
+        if let Some(refused) = self_overlap_of(numbered(i), part) {
+            return Some(refused);
         }
     }
     None
@@ -84,13 +90,23 @@ fn clashing_box(grant: GrantText, earlier: &[BoxText]) -> Option<u32>
     None
 }
 
+// The clash of a grant of box i with an earlier box.
+fn clash_at(earlier: &[BoxText], i: u32, grant: GrantText) -> Option<Refused>
+    ensures { result ≡ clash_at earlier.now i grant }
+{
+    match clashing_box(grant, earlier) {
+        Some(first) => Some(Refused::Clash { first, second: i }),
+        None => None,
+    }
+}
+
 // The first grant of a box that clashes with an earlier box, and the least of them.
 fn clash_of(earlier: &[BoxText], i: u32, part: &BoxText) -> Option<Refused>
     ensures { result ≡ clash_of earlier.now i part.now }
 {
     for grant in part.grants.as_slice() {
-        if let Some(first) = clashing_box(*grant, earlier) {
-            return Some(Refused::Clash { first, second: i });
+        if let Some(refused) = clash_at(earlier, i, *grant) {
+            return Some(refused);
         }
     }
     None
@@ -101,9 +117,8 @@ pub fn clash(boxes: &[BoxText]) -> Option<Refused>
     ensures { result ≡ clash boxes.now }
 {
     for (i, part) in boxes.iter().enumerate() {
-        let refusal = clash_of(&boxes[..i], numbered(i), part);
-        if refusal.is_some() {
-            return refusal;
+        if let Some(refused) = clash_of(&boxes[..i], numbered(i), part) {
+            return Some(refused);
         }
     }
     None

@@ -1,7 +1,5 @@
-ghost use Rattle.std.specs.Prelude.{◌≡◌, is_none, map};
-ghost use Rattle.addr_base.specs.Range.{end_of};
-ghost use Rattle.flat_model.specs.First.{refuse_if};
-ghost use Rattle.acl_resolver.specs.Refusals.{bad_grant, bad_grant_of, do_overlap, first_numbered, is_grantable, is_inside, outside_of, overlaps_one, range_as_written, range_at_multiple, rounded, rounded_by, rounded_range, self_overlap, self_overlap_of};
+ghost use Rattle.std.specs.Prelude.{◌≡◌, ◌≤◌};
+ghost use Rattle.acl_resolver.specs.Refusals.{bad_grant, bad_grant_at, bad_grant_of, first_numbered, is_grantable, is_inside, outside_at, outside_of, range_as_written, range_at_multiple, rounded, rounded_by, rounded_range};
 
 use crate::placing::numbered;
 use addr_base::{Range, round_down, round_up};
@@ -18,15 +16,35 @@ fn range_as_written(base: u32, len: u32) -> Option<Range>
     }
 }
 
-// A base and a length where there is a length that divides the base.
-fn range_at_multiple(base: u32, len: Option<u32>) -> Option<Range>
+// A base and a length where the length divides the base.
+fn range_at_multiple(base: u32, len: u32) -> Option<Range>
+    requires { 1 ≤ len }
     ensures { result ≡ range_at_multiple base len }
 {
-    let len = len?;
-    if base.checked_rem(len) == Some(0) {
+    if base % len == 0 {
         Some(Range { base, len })
     } else {
         None
+    }
+}
+
+// The range whose length is rounded up, where its base is a multiple of it.
+fn rounded_up(base: u32, len: u32) -> Option<Range>
+    ensures { result ≡ rounded_by Round.Up base len }
+{
+    match round_up(len) {
+        Some(len) => range_at_multiple(base, len),
+        None => None,
+    }
+}
+
+// The range whose length is rounded down, where its base is a multiple of it.
+fn rounded_down(base: u32, len: u32) -> Option<Range>
+    ensures { result ≡ rounded_by Round.Down base len }
+{
+    match round_down(len) {
+        Some(len) => range_at_multiple(base, len),
+        None => None,
     }
 }
 
@@ -36,8 +54,8 @@ pub fn rounded(grant: GrantText) -> Option<Range>
 {
     match grant.round {
         Round::Plain => range_as_written(grant.base, grant.len),
-        Round::Up => range_at_multiple(grant.base, round_up(grant.len)),
-        Round::Down => range_at_multiple(grant.base, round_down(grant.len)),
+        Round::Up => rounded_up(grant.base, grant.len),
+        Round::Down => rounded_down(grant.base, grant.len),
     }
 }
 
@@ -45,22 +63,35 @@ pub fn rounded(grant: GrantText) -> Option<Range>
 pub fn rounded_range(grant: GrantText) -> Range
     ensures { result ≡ rounded_range grant }
 {
-    rounded(grant).unwrap_or(Range {
-        base: grant.base,
-        len: grant.len,
-    })
+    match rounded(grant) {
+        Some(range) => range,
+        None => Range {
+            base: grant.base,
+            len: grant.len,
+        },
+    }
+}
+
+// The grant, where its rounding rule fails.
+fn bad_grant_at(i: u32, j: u32, grant: GrantText) -> Option<Refused>
+    ensures { result ≡ bad_grant_at i j grant }
+{
+    match rounded(grant) {
+        Some(_) => None,
+        None => Some(Refused::BadGrant {
+            at_box: i,
+            grant: j,
+        }),
+    }
 }
 
 // A grant of a box whose rounding rule fails.
-fn bad_grant_of(i: u32, grants: &[GrantText]) -> Option<Refused>
-    ensures { result ≡ first_numbered (λ j grant. refuse_if (is_none (rounded grant)) (Refused.BadGrant i j)) 0 grants.now }
+fn bad_grant_of(i: u32, part: &BoxText) -> Option<Refused>
+    ensures { result ≡ bad_grant_of i part.now }
 {
-    for (j, grant) in grants.iter().enumerate() {
-        if rounded(*grant).is_none() {
-            return Some(Refused::BadGrant {
-                at_box: i,
-                grant: numbered(j),
-            });
+    for (j, grant) in part.grants.as_slice().iter().enumerate() {
+        if let Some(refused) = bad_grant_at(i, numbered(j), *grant) {
+            return Some(refused);
         }
     }
     None
@@ -71,19 +102,39 @@ pub fn bad_grant(boxes: &[BoxText]) -> Option<Refused>
     ensures { result ≡ bad_grant boxes.now }
 {
     for (i, part) in boxes.iter().enumerate() {
-        let refusal = bad_grant_of(numbered(i), part.grants.as_slice());
-        if refusal.is_some() {
-            return refusal;
+        if let Some(refused) = bad_grant_of(numbered(i), part) {
+            return Some(refused);
         }
     }
     None
 }
 
-/// Whether every address of the first range is in the second.
-pub fn is_inside(inner: Range, outer: Range) -> bool
+// Whether every address of the first range is in the second.
+fn is_inside(inner: Range, outer: Range) -> bool
     ensures { result ≡ is_inside inner outer }
 {
     outer.base <= inner.base && inner.end() <= outer.end()
+}
+
+// Whether the range lies in the peripherals or in the common part.
+fn is_grantable(board: &Board, common: Range, range: Range) -> bool
+    ensures { result ≡ is_grantable board.now common range }
+{
+    is_inside(range, board.peripherals) || is_inside(range, common)
+}
+
+// The grant, where it is rounded to neither the peripherals nor the common part.
+fn outside_at(board: &Board, common: Range, i: u32, j: u32, grant: GrantText) -> Option<Refused>
+    ensures { result ≡ outside_at board.now common i j grant }
+{
+    if is_grantable(board, common, rounded_range(grant)) {
+        None
+    } else {
+        Some(Refused::GrantOutside {
+            at_box: i,
+            grant: j,
+        })
+    }
 }
 
 // A rounded grant of a box that is neither in the peripherals nor in the common part.
@@ -91,12 +142,8 @@ fn outside_of(board: &Board, common: Range, i: u32, part: &BoxText) -> Option<Re
     ensures { result ≡ outside_of board.now common i part.now }
 {
     for (j, grant) in part.grants.as_slice().iter().enumerate() {
-        let range = rounded_range(*grant);
-        if !is_inside(range, board.peripherals) && !is_inside(range, common) {
-            return Some(Refused::GrantOutside {
-                at_box: i,
-                grant: numbered(j),
-            });
+        if let Some(refused) = outside_at(board, common, i, numbered(j), *grant) {
+            return Some(refused);
         }
     }
     None
@@ -107,9 +154,8 @@ pub fn grant_outside(board: &Board, common: Range, boxes: &[BoxText]) -> Option<
     ensures { result ≡ first_numbered (outside_of board.now common) 0 boxes.now }
 {
     for (i, part) in boxes.iter().enumerate() {
-        let refusal = outside_of(board, common, numbered(i), part);
-        if refusal.is_some() {
-            return refusal;
+        if let Some(refused) = outside_of(board, common, numbered(i), part) {
+            return Some(refused);
         }
     }
     None

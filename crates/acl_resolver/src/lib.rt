@@ -2,8 +2,10 @@
 #![tactic(auto)]
 
 mod clashes;
+mod gates;
 mod grants;
 mod lines;
 mod placing;
+mod script;
 
 pub use flat_model::Config;

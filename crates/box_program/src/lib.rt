@@ -5,4 +5,9 @@ mod numbers;
 mod opcodes;
 mod program;
 mod spelling;
+#[cfg(test)]
+mod tests;
 mod words;
+
+pub use program::assemble;
+pub use spelling::show;

@@ -27,7 +27,7 @@ use Rattle.flat_model.specs.declared.texts.RpcText.{RpcText}
 use Rattle.flat_model.specs.declared.texts.ThreadText.{ThreadText}
 use Rattle.flat_model.specs.Items.{flash_items, read_write}
 use Rattle.flat_model.specs.Placing.{limit_of}
-use Rattle.acl_resolver.specs.Naming.{Spelled, bad_device, bad_gateway, bad_script, box_named, no_server, script_words, set_of_names, word_of_text}
+use Rattle.acl_resolver.specs.Naming.{bad_device, bad_gateway, bad_script, box_named, no_server, script_words, set_of_names, word_of_text}
 use Rattle.acl_resolver.specs.Refusals.{bad_grant, clash, first_numbered, grant_outside, line_taken, no_room, own_after, rounded_range, self_overlap}
 
 -- the refusal of a program with this answer, or none
@@ -35,10 +35,17 @@ abbrev pub refusal_of_program : ℕ → ℕ → Result (List Instr) BadLine → 
 refusal_of_program i j (Ok instructions) = None
 refusal_of_program i j (Err bad) = Some (refused.BadProgram i j bad.line)
 
+-- the refusal of the program text of a thread, or none
+abbrev pub bad_program_at : ℕ → ℕ → ThreadText → Option Refused
+bad_program_at i j thread = refusal_of_program i j (program thread.program)
+
+-- a program text of a box that is refused
+abbrev pub bad_program_of : ℕ → BoxText → Option Refused
+bad_program_of i b = first_numbered (bad_program_at i) 0 b.threads
+
 -- a program text that is refused
 abbrev pub bad_program : List BoxText → Option Refused
-bad_program boxes =
-    first_numbered (λ i b. first_numbered (λ j thread. refusal_of_program i j (program thread.program)) 0 b.threads) 0 boxes
+bad_program boxes = first_numbered bad_program_of 0 boxes
 
 -- the parts of a firmware as they are written
 pub record Parts : Type 0 where
