@@ -1,5 +1,5 @@
 -- What names stand for: boxes, and the words of a script.
-use Rattle.std.specs.Prelude.{ℕ, zero, suc, ◌+◌, ◌%◌, ◌^◌, Bool, ◌&&◌, not, nat_eq, is_none, is_some, Option, List, [], ◌∷◌, ◌++◌, map, length, codes, find, if◌then◌else◌, unwrap_or}
+use Rattle.std.specs.Prelude.{ℕ, ◌+◌, ◌%◌, ◌^◌, Bool, ◌&&◌, not, nat_eq, is_none, is_some, Option, List, [], ◌∷◌, ◌++◌, map, length, codes, find, if◌then◌else◌, unwrap_or}
 use Rattle.std.specs.Fmt.{decimal}
 use Rattle.std.specs.List.{list_all, list_any, position_from}
 use Rattle.std.specs.Option.{option_map, option_or}
@@ -19,8 +19,9 @@ use Rattle.flat_model.specs.declared.texts.BoxText.{BoxText}
 use Rattle.flat_model.specs.declared.texts.GateTexts.{GateTexts}
 use Rattle.flat_model.specs.declared.texts.RegText.{RegText}
 use Rattle.flat_model.specs.declared.texts.RpcText.{RpcText}
+use Rattle.flat_model.specs.declared.texts.ThreadText.{ThreadText}
 use Rattle.flat_model.specs.First.{refuse_if}
-use Rattle.acl_resolver.specs.declared.script.Spelled.{Spelled}
+use Rattle.acl_resolver.specs.declared.spelling.Spelled.{Spelled}
 use Rattle.acl_resolver.specs.Refusals.{first_numbered, is_line_of_some}
 
 -- whether the box has this name
@@ -90,18 +91,19 @@ bad_device_at boxes d device = refuse_if (not (list_all (is_owned boxes) device.
 abbrev pub bad_device : List BoxText → List DevicePart → Option Refused
 bad_device boxes devices = first_numbered (bad_device_at boxes) 0 devices
 
--- the words of n threads of a box with this name, the first with index k in the box and number t
-abbrev pub thread_words : List ℕ → ℕ → ℕ → ℕ → List Spelled
-thread_words name k t zero = []
-thread_words name k t (suc n) =
-    record { text = name ++ codes "." ++ decimal k; word = word.Thread (record { 0 = t }) }
-    ∷ thread_words name (k + 1) (t + 1) n
+-- the word of thread k of a box with this name, whose number is t
+abbrev pub thread_word : List ℕ → ℕ → ℕ → Spelled
+thread_word name k t = record { text = name ++ codes "." ++ decimal k; word = word.Thread (record { 0 = t }) }
+
+-- the words of threads of a box with this name, the first with index k in the box and number t
+abbrev pub thread_words : List ℕ → ℕ → ℕ → List ThreadText → List Spelled
+thread_words name k t [] = []
+thread_words name k t (thread ∷ threads) = thread_word name k t ∷ thread_words name (k + 1) (t + 1) threads
 
 -- the words of the threads of boxes, numbered from t on
 abbrev pub threads_words : ℕ → List BoxText → List Spelled
 threads_words t [] = []
-threads_words t (b ∷ boxes) =
-    thread_words b.name 0 t (length b.threads) ++ threads_words (t + length b.threads) boxes
+threads_words t (b ∷ boxes) = thread_words b.name 0 t b.threads ++ threads_words (t + length b.threads) boxes
 
 -- the word that rings an interrupt line
 abbrev pub ring_word : IrqPart → Spelled

@@ -1,5 +1,5 @@
 -- The configuration that a firmware's parts are resolved to, or the first refusal.
-use Rattle.std.specs.Prelude.{ℕ, ◌+◌, Bool, unwrap_or, length, Option, Some, None, List, [], ◌∷◌, ◌++◌, map, Result, Ok, Err}
+use Rattle.std.specs.Prelude.{⊤, ◌≡◌, ℕ, ◌+◌, Bool, unwrap_or, length, Option, Some, None, List, [], ◌∷◌, ◌++◌, map, Result, Ok, Err}
 use Rattle.std.specs.List.{filter_map}
 use Rattle.std.specs.Option.{option_or}
 use Rattle.addr_base.specs.declared.identity.BoxId.{BoxId}
@@ -17,6 +17,8 @@ use Rattle.flat_model.specs.declared.parts.RegGate.{RegGate}
 use Rattle.flat_model.specs.declared.parts.RpcGate.{RpcGate}
 use Rattle.flat_model.specs.declared.parts.ScriptWord.{ScriptWord}
 use Rattle.flat_model.specs.declared.parts.ThreadPart.{ThreadPart}
+use Rattle.flat_model.specs.declared.refusals.ConfigErr.{ConfigErr}
+use Rattle.flat_model.specs.declared.refusals.ConfigErr.TheVariants as config_err
 use Rattle.flat_model.specs.declared.refusals.Refused.{Refused}
 use Rattle.flat_model.specs.declared.refusals.Refused.TheVariants as refused
 use Rattle.flat_model.specs.declared.texts.BoxText.{BoxText}
@@ -55,6 +57,11 @@ pub record Parts : Type 0 where
   pub devices : List DevicePart
   pub script : List (List ℕ)
 
+-- the parts with this board, these boxes, gateways, devices and words
+abbrev pub parts_of : Board → List BoxText → GateTexts → List DevicePart → List (List ℕ) → Parts
+parts_of board boxes gates devices script =
+    record { board = board; boxes = boxes; gates = gates; devices = devices; script = script }
+
 -- the first refusal of the parts, kind by kind
 unfoldable pub refusal_of : Parts → Option Refused
 refusal_of parts =
@@ -74,6 +81,11 @@ refusal_of parts =
 abbrev pub grant_item : GrantText → Item
 grant_item grant = record { range = rounded_range grant; rights = grant.rights }
 
+-- the items of a box with this own memory and these grants
+abbrev pub box_items : Board → Range → Bool → List Item → List Item
+box_items board own secret grants =
+    flash_items board.flash board.secret secret ++ record { range = own; rights = read_write } ∷ grants
+
 -- a box whose own memory is this and whose first thread has the number t
 abbrev pub box_part : Board → Range → ℕ → BoxText → BoxPart
 box_part board own t b = record {
@@ -83,8 +95,7 @@ box_part board own t b = record {
     first = t;
     threads = length b.threads;
     server = record { 0 = t + b.server };
-    items = flash_items board.flash board.secret b.secret
-        ++ record { range = own; rights = read_write } ∷ map grant_item b.grants;
+    items = box_items board own b.secret (map grant_item b.grants);
     grants = map grant_item b.grants;
     irqs = b.irqs;
   }
@@ -147,3 +158,8 @@ configured parts None = Ok (configuration_of parts)
 -- the configuration that parts are resolved to, or their first refusal
 abbrev pub resolution_of : Parts → Result Config Refused
 resolution_of parts = configured parts (refusal_of parts)
+
+-- an error is the refusal that is due, or want of memory
+abbrev pub IsDue : Option Refused → ConfigErr → Type 0
+IsDue due (config_err.Refused refused) = due ≡ Some refused
+IsDue due config_err.Memory = ⊤

@@ -86,3 +86,16 @@ pub fn common_behind(board: &Board, boxes: &[BoxText], end: u64) -> Range
         len: (limit_of(board) - end) as u32,
     }
 }
+
+/// Own memory for a size, placed at or after an address.
+pub fn own_after(start: u64, size: u32) -> Range
+    requires low { start < 2 ^ 33 }
+    requires room { end_of (own_after start size) ≤ ADDRESS_END }
+    ensures { result ≡ own_after start size }
+{
+    let len = own_len(size);
+    Range {
+        base: multiple_from(len, start) as u32,
+        len,
+    }
+}
