@@ -62,20 +62,30 @@ abbrev pub parts_of : Board → List BoxText → GateTexts → List DevicePart �
 parts_of board boxes gates devices script =
     record { board = board; boxes = boxes; gates = gates; devices = devices; script = script }
 
+-- the first refusal of where the boxes and their grants lie
+abbrev pub placing_refusal : Board → List BoxText → Option Refused
+placing_refusal board boxes =
+    option_or (no_room (limit_of board) board.sram.base 0 boxes)
+    (option_or (bad_grant boxes)
+    (option_or (grant_outside board boxes)
+    (option_or (self_overlap boxes)
+    (clash boxes))))
+
+-- the first refusal of lines and gateways
+abbrev pub naming_refusal : Board → List BoxText → GateTexts → Option Refused
+naming_refusal board boxes gates =
+    option_or (line_taken boxes)
+    (option_or (bad_gateway board boxes gates)
+    (no_server boxes gates.gateways))
+
 -- the first refusal of the parts, kind by kind
 unfoldable pub refusal_of : Parts → Option Refused
 refusal_of parts =
-    option_or (no_room (limit_of parts.board) parts.board.sram.base 0 parts.boxes)
-    (option_or (bad_grant parts.boxes)
-    (option_or (grant_outside parts.board parts.boxes)
-    (option_or (self_overlap parts.boxes)
-    (option_or (clash parts.boxes)
-    (option_or (line_taken parts.boxes)
-    (option_or (bad_gateway parts.board parts.boxes parts.gates)
-    (option_or (no_server parts.boxes parts.gates.gateways)
+    option_or (placing_refusal parts.board parts.boxes)
+    (option_or (naming_refusal parts.board parts.boxes parts.gates)
     (option_or (bad_program parts.boxes)
     (option_or (bad_device parts.boxes parts.devices)
-    (bad_script parts.boxes parts.script))))))))))
+    (bad_script parts.boxes parts.script))))
 
 -- a grant once it is rounded
 abbrev pub grant_item : GrantText → Item
