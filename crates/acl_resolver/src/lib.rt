@@ -23,7 +23,7 @@ ghost use Rattle.acl_resolver.specs.Resolve.{parts_of, resolution_of};
 use boxes::box_parts;
 use flat_model::{Board, BoxText, ConfigErr, DevicePart, GateTexts, Items};
 use gateways::{call_gates, register_gates};
-use stages::{naming_refusal, or_memory, placing_refusal, scripted};
+use stages::{naming_refusal, or_memory, placing_refusal, scripted, unless_refused};
 use std::alloc::Global;
 
 pub use flat_model::Config;
@@ -44,12 +44,8 @@ pub fn resolve(
     ensures sound { IfOk result IsSound }
 {
     let texts = boxes.as_slice();
-    if let Some(refused) = placing_refusal(&board, texts) {
-        return Err(ConfigErr::Refused(refused));
-    }
-    if let Some(refused) = naming_refusal(&board, texts, &gates) {
-        return Err(ConfigErr::Refused(refused));
-    }
+    unless_refused(placing_refusal(&board, texts))?;
+    unless_refused(naming_refusal(&board, texts, &gates))?;
     let made = scripted(alloc, texts, devices.as_slice(), script.as_slice())?;
     let parts = or_memory(box_parts(alloc, &board, texts))?;
     let registers = or_memory(register_gates(alloc, texts, gates.registers.as_slice()))?;

@@ -69,6 +69,17 @@ pub fn naming_refusal(board: &Board, boxes: &[BoxText], gates: &GateTexts) -> Op
     no_server(boxes, gates.gateways.as_slice())
 }
 
+/// Goes on unless there is a refusal.
+pub fn unless_refused(refusal: Option<Refused>) -> Result<(), ConfigErr>
+    ensures none { OnOk result (refusal ≡ None) }
+    ensures err { IfErr result (IsDue refusal) }
+{
+    match refusal {
+        Some(refused) => Err(ConfigErr::Refused(refused)),
+        None => Ok(()),
+    }
+}
+
 /// A value that was made, or want of memory.
 pub fn or_memory<T>(made: Result<T, AllocError>) -> Result<T, ConfigErr>
     ensures ok { IfOk result (λ v. made ≡ Ok v) }
