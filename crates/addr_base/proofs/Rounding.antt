@@ -1,11 +1,13 @@
 -- Powers of two between others, and what rounding finds among them.
-use Rattle.std.proofs.Common.{◌≡◌, ℕ, zero, suc, ◌+◌, ◌*◌, ◌^◌, ◌/◌, ◌<◌, ◌≤◌, Some, None, true, false, nat_le, find, max, refl, sym, subst, inl, inr, arith, le-leb}
+use Rattle.std.proofs.Common.{◌≡◌, ℕ, zero, suc, ◌+◌, ◌*◌, ◌^◌, ◌/◌, ◌<◌, ◌≤◌, Some, None, Bool, true, false, ◌==◌, nat_le, find, max, refl, ap, sym, ◌∙◌, subst, inl, inr, arith, le-leb, eq-eqb}
 use Rattle.std.proofs.Math.Pow.{pow_mono}
 use Rattle.std.proofs.lemmas.Nat.{pow_below}
-use Rattle.std.proofs.lemmas.Bool.{cases_lt}
+use Rattle.std.proofs.lemmas.Bool.{cases_lt, cases_Bool, eqb-true, false≢true}
+use Rattle.std.proofs.Math.Bool.{or-true}
+use Rattle.std.specs.List.{list_any}
 use Rattle.std.proofs.lemmas.Bool.Decides.{nat_tests}
 use Rattle.std.proofs.Math.Nat.{pow-suc}
-use Rattle.addr_base.specs.Powers.{IsPowerOfTwo, IsLeastPower, IsGreatestPower, powers_from, powers_down, round_up, round_down}
+use Rattle.addr_base.specs.Powers.{IsPowerOfTwo, IsLeastPower, IsGreatestPower, is_power, powers_from, powers_down, round_up, round_down}
 
 -- a smaller power has a smaller exponent
 pub exponent_below : (i j : ℕ) → 2 ^ i < 2 ^ j → i < j
@@ -153,3 +155,45 @@ power_fits power (j, same) below =
     let exponent : j < 32 = exponent_below j 32 (rw (← same) below) in
     let up : 2 ^ j ≤ 2 ^ 31 = pow_mono {i = j} {j = 31} (omega arith) in
     rw same up
+
+among_powers : (count k j : ℕ) → k ≤ j → j < k + count → list_any (λ power. 2 ^ j == power) (powers_from k count) ≡ true
+unfolding powers_from
+among_powers zero k j low high = absurd (omega arith)
+among_powers (suc count) k j low high = elim (cases_lt k j) [
+  | inl less ↦ rw (among_powers count (suc k) j (omega arith) (omega arith)) (or-true (2 ^ j == 2 ^ k))
+  | inr same ↦
+      let here : j ≡ k = omega arith in
+      rw (eq-eqb (2 ^ j) (2 ^ k) (ap (λ e. 2 ^ e) here)) refl
+]
+
+power_among : (count k n : ℕ) → list_any (λ power. n == power) (powers_from k count) ≡ true → IsPowerOfTwo n
+unfolding powers_from
+power_among zero k n found = absurd (false≢true found)
+power_among (suc count) k n found = elim (cases_Bool (n == 2 ^ k)) [
+  | inl same ↦ (k, eqb-true n (2 ^ k) same)
+  | inr other ↦ power_among count (suc k) n (rw other at found)
+]
+
+-- a power of two below 2 ^ 32 passes the test
+pub is_power-at : (n : ℕ) → n < 2 ^ 32 → IsPowerOfTwo n → is_power n ≡ true
+unfolding is_power
+is_power-at n below (j, same) = rw same (among_powers 32 0 j (omega arith) (exponent_below j 32 (rw (← same) below)))
+
+-- what passes the test is a power of two
+pub power_from_test : (n : ℕ) → is_power n ≡ true → IsPowerOfTwo n
+unfolding is_power
+power_from_test n found = power_among 32 0 n found
+
+-- a test that tells powers of two is this one
+pub is_power-told : (n : ℕ) (told : Bool) → n < 2 ^ 32 → (told ≡ true → IsPowerOfTwo n) → (IsPowerOfTwo n → told ≡ true) → told ≡ is_power n
+is_power-told n told below there back = elim (cases_Bool told) [
+  | inl yes_it_is ↦ rw (yes_it_is, is_power-at n below (there yes_it_is)) refl
+  | inr no_it_is_not ↦ elim (cases_Bool (is_power n)) [
+    | inl test ↦ absurd (false≢true (sym no_it_is_not ∙ back (power_from_test n test)))
+    | inr test ↦ rw (no_it_is_not, test) refl
+  ]
+]
+
+pub zero_is_no_power : is_power 0 ≡ false
+unfolding is_power powers_from
+zero_is_no_power = refl

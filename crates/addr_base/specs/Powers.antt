@@ -1,5 +1,6 @@
 -- Powers of two, and rounding to them.
-use Rattle.std.specs.Prelude.{ℕ, zero, suc, ◌+◌, ◌^◌, ◌≤◌, List, [], ◌∷◌, Option, find, nat_le}
+use Rattle.std.specs.Prelude.{ℕ, zero, suc, ◌+◌, ◌^◌, ◌≤◌, Bool, ◌==◌, List, [], ◌∷◌, Option, find, nat_le}
+use Rattle.std.specs.List.{list_any}
 pub use Rattle.std.specs.Int.{IsPowerOfTwo}
 
 -- the least power of two that is at or above both bounds
@@ -24,6 +25,10 @@ powers_from k (suc n) = 2 ^ k ∷ powers_from (suc k) n
 unfoldable pub powers_down : ℕ → ℕ → List ℕ
 powers_down k zero = []
 powers_down k (suc n) = 2 ^ (k + n) ∷ powers_down k n
+
+-- whether the number is one of the powers of two below 2 ^ 32
+unfoldable pub is_power : ℕ → Bool
+is_power n = list_any (λ power. n == power) (powers_from 0 32)
 
 -- the least power of two from 32 to 2 ^ 31 that is at or above the length
 unfoldable pub round_up : ℕ → Option ℕ

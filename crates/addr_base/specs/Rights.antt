@@ -5,6 +5,22 @@ use Rattle.addr_base.specs.declared.rights.Kind.{Kind}
 use Rattle.addr_base.specs.declared.rights.Kind.TheVariants.{Read, Write, Fetch}
 use Rattle.addr_base.specs.declared.rights.Rights.{Rights}
 
+-- the set of no other right than to read
+abbrev pub read_only : Rights
+read_only = record { bits = 1 }
+
+-- the set of the rights to read and to write
+abbrev pub read_write : Rights
+read_write = record { bits = 3 }
+
+-- the set of the rights to read and to execute
+abbrev pub read_execute : Rights
+read_execute = record { bits = 5 }
+
+-- the set of all three rights
+abbrev pub all_rights : Rights
+all_rights = record { bits = 7 }
+
 -- whether the set has the right to read
 abbrev pub may_read : Rights → Bool
 may_read rights = bit_and rights.bits 1 == 1

@@ -1,6 +1,6 @@
 /// One region of the protection unit: its base register and its attribute and size register
 /// (Armv7-M Architecture Reference Manual, B3.5.8 and B3.5.9).
-#[derive(Clone, Copy, PartialEq, Eq, Debug)]
+#[derive(Clone, Copy, Default, PartialEq, Eq, Debug)]
 pub struct Pair {
     pub rbar: u32,
     pub rasr: u32,

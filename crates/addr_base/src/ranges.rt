@@ -1,5 +1,5 @@
 ghost use Rattle.std.specs.Prelude.{◌≡◌, ◌⊎◌, ◌+◌, ◌^◌, ◌<◌, ◌≤◌, ◌↔◌, IsTrue, IsNone, IfSome};
-ghost use Rattle.addr_base.specs.Powers.{IsGreatestPower, IsLeastPower, IsPowerOfTwo, round_down, round_up};
+ghost use Rattle.addr_base.specs.Powers.{IsGreatestPower, IsLeastPower, IsPowerOfTwo, is_power, round_down, round_up};
 
 /// The addresses from `base` on, `len` of them. A range of a box has at least one address and ends
 /// at or below 0xE0000000.
@@ -74,7 +74,8 @@ fn power_of(k: u32) -> u32
 
 /// Whether the number is a power of two.
 pub fn is_power(n: u32) -> bool
-    ensures { IsTrue result ↔ IsPowerOfTwo n }
+    ensures exact { IsTrue result ↔ IsPowerOfTwo n }
+    ensures test { result ≡ is_power n }
 {
     n > 0 && power_of(n.ilog2()) == n
 }

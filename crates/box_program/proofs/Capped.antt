@@ -1,11 +1,11 @@
 -- Reading digits with a cap gives the capped number.
-use Rattle.std.proofs.Common.{◌≡◌, ℕ, ◌+◌, ◌*◌, ◌<◌, ◌≤◌, Bool, true, false, nat_lt, min, List, [], ◌∷◌, length, get_or, drop, refl, ap, sym, ◌∙◌, arith, inl, inr}
+use Rattle.std.proofs.Common.{◌≡◌, ℕ, ◌+◌, ◌*◌, ◌<◌, ◌≤◌, Bool, true, nat_lt, min, List, [], ◌∷◌, length, get_or, drop, sym, ◌∙◌, arith, inl, inr}
 use Rattle.std.specs.Char.{is_digit, digit_value}
 use Rattle.std.specs.List.{list_all}
 use Rattle.std.specs.Str.Parse.{digits_value_after}
 use Rattle.std.proofs.lemmas.Bool.{cases_lt, lt-ltb}
 use Rattle.std.proofs.lemmas.List.{at_drop_more}
-use Rattle.std.proofs.Math.Nat.{mul-le-mul_left, min-eq_left, min-eq_right}
+use Rattle.std.proofs.Math.Nat.{mul-le-mul_left}
 
 one_more_digit : (radix n digit : ℕ) → 1 ≤ radix → n ≤ n * radix + digit
 one_more_digit radix n digit h = let p : n * 1 ≤ n * radix = mul-le-mul_left n h in omega arith
@@ -22,7 +22,7 @@ digits_value_after_ge radix n (d ∷ ds) h =
 pub capped_digits : (cap radix n : ℕ) (ds : List ℕ) → 1 ≤ radix → min (digits_value_after radix (min n cap) ds) cap ≡ min (digits_value_after radix n ds) cap
 capped_digits cap radix n ds h =
     elim (cases_lt n cap) as (λ _. min (digits_value_after radix (min n cap) ds) cap ≡ min (digits_value_after radix n ds) cap) [
-      inl below ↦ let e : min n cap ≡ n = omega arith in rw e
+      | inl below ↦ let e : min n cap ≡ n = omega arith in rw e
       | inr above ↦
           let e : min n cap ≡ cap = omega arith in
           let low = digits_value_after_ge radix cap ds h in
@@ -32,7 +32,7 @@ capped_digits cap radix n ds h =
 
 -- one more digit, where the number so far is capped
 pub capped_digit_more : (cap radix n all : ℕ) (ds : List ℕ) (i : ℕ) → 1 ≤ radix → i < length ds → min (digits_value_after radix n (drop i ds)) cap ≡ all
-  → min (digits_value_after radix (min (n * radix + digit_value (get_or ds i 0)) cap) (drop (i + 1) ds)) cap ≡ all
+    → min (digits_value_after radix (min (n * radix + digit_value (get_or ds i 0)) cap) (drop (i + 1) ds)) cap ≡ all
 capped_digit_more cap radix n all ds i h lt before =
     capped_digits cap radix (n * radix + digit_value (get_or ds i 0)) (drop (i + 1) ds) h
     ∙ sym (at_drop_more (λ xs. min (digits_value_after radix n xs) cap) ds i 0 lt)

@@ -1,6 +1,6 @@
 -- A number that is shown is read again.
-use Rattle.std.proofs.Common.{◌≡◌, ℕ, zero, suc, ◌+◌, ◌-◌, ◌*◌, ◌/◌, ◌%◌, ◌^◌, ◌<◌, ◌≤◌, Bool, true, false, nat_le, nat_lt, eqb, List, [], ◌∷◌, ◌++◌, length, get_or, take, drop, Option, Some, None, Ok, Result, refl, sym, ap, inl, inr, ◌&&◌, ◌||◌, ◌∙◌, arith, length-append}
-use Rattle.std.specs.Prelude.{slice_index, codes, nat_eq}
+use Rattle.std.proofs.Common.{◌≡◌, ℕ, zero, suc, ◌+◌, ◌*◌, ◌/◌, ◌%◌, ◌^◌, ◌<◌, ◌≤◌, Bool, true, false, nat_le, nat_lt, List, [], ◌∷◌, ◌++◌, length, get_or, Some, Ok, refl, ap, inl, inr, ◌&&◌, ◌||◌, ◌∙◌, arith, length-append}
+use Rattle.std.specs.Prelude.{codes, nat_eq}
 use Rattle.std.specs.Char.{is_digit, digit_value}
 use Rattle.std.specs.Fmt.{decimal, digit_glyph}
 use Rattle.std.specs.List.{list_all, starts_with}
@@ -8,14 +8,12 @@ use Rattle.std.specs.Str.Parse.{digits_value, AllDigits}
 use Rattle.std.proofs.lemmas.Bool.{cases_lt, lt-ltb, le-leb}
 use Rattle.std.proofs.Math.Nat.{pow-suc}
 use Rattle.std.proofs.lemmas.Bool.Decides.{nat_tests}
-use Rattle.std.proofs.lemmas.Fmt.{decimal_digit, decimal_is_IsNumeral, decimal_by_steps, decimal_nonempty, first_decimal}
+use Rattle.std.proofs.lemmas.Fmt.{decimal_digit, decimal_is_IsNumeral, decimal_nonempty, first_decimal}
 use Rattle.std.proofs.lemmas.Int.Digits.{digits_value_push, digits_push}
-use Rattle.flat_model.specs.Operands.{IsRegister, IsWord, IsSmall, IsLooks}
-use Rattle.flat_model.specs.declared.instructions.Why.{Why}
 use Rattle.box_program.specs.declared.opcodes.Operand.{Operand}
 use Rattle.box_program.specs.declared.opcodes.Operand.TheVariants.{Register, Word, Small, Looks}
 use Rattle.box_program.specs.Numbers.{value_of, leads_well, decimal_value, hexadecimal_value, number}
-use Rattle.box_program.specs.Program.{register, within, operand}
+use Rattle.box_program.specs.Program.{register, number_within, operand}
 use Rattle.box_program.specs.Shown.{hexadecimal_digits, operand_text}
 use Rattle.box_program.proofs.ValidLemmas.{IsOperand}
 
@@ -85,7 +83,7 @@ leads_well-decimal : (n : ℕ) → n < 2 ^ 32 → leads_well (decimal n) ≡ tru
 unfolding leads_well
 leads_well-decimal n h =
     elim (cases_lt 0 n) as (λ _. leads_well (decimal n) ≡ true) [
-      inl more ↦ leads_well-from (decimal n) (decimal_nonempty n (omega arith)) (first_decimal n more (omega arith))
+      | inl more ↦ leads_well-from (decimal n) (decimal_nonempty n (omega arith)) (first_decimal n more (omega arith))
       | inr none ↦ rw (decimal_digit n (omega arith))
     ]
 
@@ -95,9 +93,9 @@ number_decimal n h =
     let is = decimal_is_IsNumeral n (omega arith) in
     rw (not_hexadecimal (decimal n) is.0.1, leads_well-decimal n h) (value_of_digits 10 (decimal n) is.0.1 ∙ ap Some is.1)
 
-within_back : (low high n : ℕ) → low ≤ n → n ≤ high → within low high (Some n) ≡ Some n
-unfolding within
-within_back low high n a b =
+number_within_back : (low high n : ℕ) → low ≤ n → n ≤ high → number_within low high (Some n) ≡ Some n
+unfolding number_within
+number_within_back low high n a b =
     let least : nat_le low n ≡ true = le-leb _ _ a in
     let most : nat_le n high ≡ true = le-leb _ _ b in
     rw (least, most)
@@ -114,6 +112,6 @@ register_back n h =
 pub operand_back : (o : Operand) (n : ℕ) → IsOperand o n → operand o (operand_text o n) ≡ Ok n
 unfolding operand operand_text
 operand_back Register n h = rw (register_back n h)
-operand_back Word n h = rw (number_hexadecimal n h, within_back 0 4294967295 n (omega arith) (omega arith))
-operand_back Small n h = rw (number_decimal n (omega arith), within_back 0 65535 n (omega arith) (omega arith))
-operand_back Looks n h = rw (number_decimal n (omega arith), within_back 1 65535 n h.0 (omega arith))
+operand_back Word n h = rw (number_hexadecimal n h, number_within_back 0 4294967295 n (omega arith) (omega arith))
+operand_back Small n h = rw (number_decimal n (omega arith), number_within_back 0 65535 n (omega arith) (omega arith))
+operand_back Looks n h = rw (number_decimal n (omega arith), number_within_back 1 65535 n h.0 (omega arith))

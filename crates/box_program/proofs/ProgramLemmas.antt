@@ -1,5 +1,5 @@
 -- The instructions of a program are valid and few.
-use Rattle.std.proofs.Common.{◌≡◌, ℕ, ◌+◌, ◌≤◌, ◌<◌, Bool, true, false, nat_le, List, [], ◌∷◌, length, Result, Ok, Err, refl, sym, ap, ◌∙◌, arith}
+use Rattle.std.proofs.Common.{◌≡◌, ℕ, ◌+◌, ◌≤◌, Bool, true, false, nat_le, List, [], ◌∷◌, length, Result, Ok, Err, refl, arith}
 use Rattle.std.specs.Prelude.{All, IfOk, if◌then◌else◌, slice_get, nat_eq}
 use Rattle.std.specs.Option.{ok_or}
 use Rattle.std.proofs.lemmas.List.Elements.{All-nil, All-cons}
@@ -12,9 +12,9 @@ use Rattle.flat_model.specs.declared.instructions.Why.{Why}
 use Rattle.flat_model.specs.declared.instructions.Why.TheVariants as why
 use Rattle.box_program.specs.declared.opcodes.Opcode.{Opcode}
 use Rattle.box_program.specs.Opcodes.{row, opcode_of}
-use Rattle.box_program.specs.Program.{◌>>=◌, Statement, bad, operand_at, instruction_with, instruction, instruction_at, instructions, statements, program}
+use Rattle.box_program.specs.Program.{◌>>=◌, Statement, bad_line, operand_at, instruction_with, instruction, instruction_at, instructions, statements, program}
 use Rattle.box_program.specs.Words.{lines}
-use Rattle.box_program.proofs.ValidLemmas.{FitsAt, operand_at_is, valid_made}
+use Rattle.box_program.proofs.ValidLemmas.{operand_at_is, valid_made}
 
 -- what holds of an answer that is the last of a chain
 then_ok : {A B E : Type 0} (r : Result A E) (f : A → Result B E) (P : B → Type 0) → ((a : A) → r ≡ Ok a → IfOk (f a) P) → IfOk (r >>= f) P
@@ -26,9 +26,9 @@ unfolding instruction_with
 instruction_with_valid o line =
     let os = (row o).operands in
     then_ok (operand_at os line 0) _ IsValidInstr (λ a ea.
-      then_ok (operand_at os line 1) _ IsValidInstr (λ b eb.
-        then_ok (operand_at os line 2) _ IsValidInstr (λ c ec.
-          valid_made o a b c (operand_at_is os line 0 a ea) (operand_at_is os line 1 b eb) (operand_at_is os line 2 c ec))))
+    then_ok (operand_at os line 1) _ IsValidInstr (λ b eb.
+    then_ok (operand_at os line 2) _ IsValidInstr (λ c ec.
+    valid_made o a b c (operand_at_is os line 0 a ea) (operand_at_is os line 1 b eb) (operand_at_is os line 2 c ec))))
 
 counted_valid : (o : Opcode) (line : List (List ℕ)) (b : Bool) → IfOk (if b then instruction_with o line else Err why.Count) IsValidInstr
 counted_valid o line true = instruction_with_valid o line
@@ -38,10 +38,10 @@ instruction_valid : (line : List (List ℕ)) → IfOk (instruction line) IsValid
 unfolding instruction
 instruction_valid line =
     then_ok (ok_or (slice_get line 0) why.Word) _ IsValidInstr (λ word _.
-      then_ok (ok_or (opcode_of word) why.Word) _ IsValidInstr (λ o _.
-        counted_valid o line (nat_eq (length line) (length (row o).operands + 1))))
+    then_ok (ok_or (opcode_of word) why.Word) _ IsValidInstr (λ o _.
+    counted_valid o line (nat_eq (length line) (length (row o).operands + 1))))
 
-answered_valid : (n : ℕ) (r : Result Instr Why) → IfOk r IsValidInstr → IfOk (elim r as (λ _. Result Instr BadLine) [ Ok i ↦ Ok i | Err cause ↦ Err (bad n cause) ]) IsValidInstr
+answered_valid : (n : ℕ) (r : Result Instr Why) → IfOk r IsValidInstr → IfOk (elim r as (λ _. Result Instr BadLine) [ Ok i ↦ Ok i | Err cause ↦ Err (bad_line n cause) ]) IsValidInstr
 answered_valid n (Ok i) h = h
 answered_valid n (Err cause) h = tt
 
@@ -55,17 +55,17 @@ pub record AreFew (before : ℕ) (is : List Instr) : Type 0 where
   pub few : before + length is ≤ 256
 
 allowed_few : (before : ℕ) (s : Statement) (ss : List Statement) (full : Bool) → nat_le 256 before ≡ full → ((n : ℕ) → n ≤ 256 → IfOk (instructions n ss) (AreFew n))
-  → IfOk (if full then Err (bad s.line why.TooMany) else (instruction_at s >>= (λ i. instructions (before + 1) ss >>= (λ is. Ok (i ∷ is))))) (AreFew before)
+    → IfOk (if full then Err (bad_line s.line why.TooMany) else (instruction_at s >>= (λ i. instructions (before + 1) ss >>= (λ is. Ok (i ∷ is))))) (AreFew before)
 allowed_few before s ss true t h = tt
 allowed_few before s ss false t h =
     let room : before + 1 ≤ 256 = omega (arith, leb-false 256 before t) in
     then_ok (instruction_at s) _ (AreFew before) (λ i ei.
-      then_ok (instructions (before + 1) ss) _ (AreFew before) (λ is eis.
-        let rest = IfOk-at_ok (AreFew (before + 1)) eis (h (before + 1) room) in
-        record {
-          valid = All-cons IsValidInstr i is (IfOk-at_ok IsValidInstr ei (instruction_at_valid s)) rest.valid;
-          few = omega (arith, rest.few);
-        }))
+    then_ok (instructions (before + 1) ss) _ (AreFew before) (λ is eis.
+    let rest = IfOk-at_ok (AreFew (before + 1)) eis (h (before + 1) room) in
+    record {
+      valid = All-cons IsValidInstr i is (IfOk-at_ok IsValidInstr ei (instruction_at_valid s)) rest.valid;
+      few = omega (arith, rest.few);
+    }))
 
 instructions_few : (before : ℕ) (ss : List Statement) → before ≤ 256 → IfOk (instructions before ss) (AreFew before)
 unfolding instructions

@@ -1,5 +1,5 @@
 -- What is shown of an instruction is read as that instruction.
-use Rattle.std.proofs.Common.{◌≡◌, ℕ, zero, suc, ◌+◌, ◌/◌, ◌%◌, ◌^◌, ◌<◌, ◌≤◌, Bool, true, false, eqb, List, [], ◌∷◌, ◌++◌, length, Some, Ok, Err, Result, refl, sym, ap, inl, inr, lit≤, ◌∙◌, arith, append-nil, append_assoc}
+use Rattle.std.proofs.Common.{◌≡◌, ℕ, zero, suc, ◌+◌, ◌/◌, ◌%◌, ◌^◌, ◌<◌, true, false, List, [], ◌∷◌, ◌++◌, length, Ok, Err, Result, refl, ap, inl, inr, lit≤, ◌∙◌, arith, append-nil, append_assoc}
 use Rattle.std.specs.Prelude.{nat_eq, nat_lt}
 use Rattle.std.specs.Fmt.{decimal, digit_glyph}
 use Rattle.std.proofs.lemmas.Bool.{ne_eqb, eq-eqb, lt-ltb, cases_lt}
@@ -12,10 +12,10 @@ use Rattle.flat_model.specs.declared.instructions.Why.{Why}
 use Rattle.box_program.specs.declared.opcodes.Opcode.{Opcode}
 use Rattle.box_program.specs.declared.opcodes.Operand.{Operand}
 use Rattle.box_program.specs.declared.opcodes.Operand.TheVariants.{Register, Word, Small, Looks}
-use Rattle.box_program.specs.Opcodes.{row, opcode_of, parts_of}
-use Rattle.box_program.specs.Program.{◌>>=◌, Statement, bad, operand, operand_at, instruction_with, instruction, instruction_at, instructions, statements, program}
+use Rattle.box_program.specs.Opcodes.{row, parts_of}
+use Rattle.box_program.specs.Program.{◌>>=◌, Statement, bad_line, operand_at, instruction_with, instruction, instruction_at, instructions, statements, program}
 use Rattle.box_program.specs.Shown.{hexadecimal_digits, operand_text, operand_text_at, text_of_parts, text_of_instruction}
-use Rattle.box_program.specs.Words.{has_bytes, lines, words}
+use Rattle.box_program.specs.Words.{has_bytes}
 use Rattle.box_program.proofs.ValidLemmas.{IsOperand}
 use Rattle.box_program.proofs.NumbersBack.{operand_back}
 use Rattle.box_program.proofs.WordsBack.{IsSolid, AllSolid, AllSolid-append, IsShownWord, AreShownWords, spaced, words_spaced, lines_spaced}
@@ -31,12 +31,12 @@ digit_solid n h = (omega arith, ne_eqb (48 + n) 59 (λ e. absurd (omega (arith, 
 decimal_solid : (n : ℕ) → n < 2 ^ 32 → AllSolid (decimal n)
 decimal_solid n h =
     decimal_by_steps (λ _ ds. AllSolid ds) (λ m small. (digit_solid m small, tt))
-      (λ m ds _ front. AllSolid-append ds ((48 + m % 10) ∷ []) front (digit_solid (m % 10) (omega arith), tt)) n (omega arith)
+    (λ m ds _ front. AllSolid-append ds ((48 + m % 10) ∷ []) front (digit_solid (m % 10) (omega arith), tt)) n (omega arith)
 
 glyph_solid : (d : ℕ) → d < 16 → IsSolid (digit_glyph true d)
 glyph_solid d h =
     elim (cases_lt d 10) as (λ _. IsSolid (digit_glyph true d)) [
-      inl low ↦ let test : nat_lt d 10 ≡ true = lt-ltb d 10 low in rw test (digit_solid d low)
+      | inl low ↦ let test : nat_lt d 10 ≡ true = lt-ltb d 10 low in rw test (digit_solid d low)
       | inr high ↦
           let test : nat_lt d 10 ≡ false = grind (arith, nat_tests) in
           rw test (omega arith, ne_eqb (55 + d) 59 (λ e. absurd (omega (arith, e))))
@@ -78,7 +78,7 @@ length-texts (o ∷ p ∷ q ∷ []) a b c h = refl
 length-texts (o ∷ p ∷ q ∷ r ∷ os) a b c h = absurd h
 
 text_spaced : (w : List ℕ) (os : List Operand) (a b c : ℕ) → Fits os a b c
-  → w ++ operand_text_at os 0 a ++ operand_text_at os 1 b ++ operand_text_at os 2 c ≡ w ++ spaced (texts os a b c)
+    → w ++ operand_text_at os 0 a ++ operand_text_at os 1 b ++ operand_text_at os 2 c ≡ w ++ spaced (texts os a b c)
 unfolding operand_text_at
 text_spaced w [] a b c h = simp append-nil
 text_spaced w (o ∷ []) a b c h = simp append-nil
@@ -87,7 +87,7 @@ text_spaced w (o ∷ p ∷ q ∷ []) a b c h = simp (append-nil, append_assoc)
 text_spaced w (o ∷ p ∷ q ∷ r ∷ os) a b c h = absurd h
 
 operands_read : (make : ℕ → ℕ → ℕ → Instr) (w : List ℕ) (os : List Operand) (a b c : ℕ) → Fits os a b c
-  → (operand_at os (w ∷ texts os a b c) 0 >>= (λ x. operand_at os (w ∷ texts os a b c) 1 >>= (λ y. operand_at os (w ∷ texts os a b c) 2 >>= (λ z. Ok (make x y z))))) ≡ Ok (make a b c)
+    → (operand_at os (w ∷ texts os a b c) 0 >>= (λ x. operand_at os (w ∷ texts os a b c) 1 >>= (λ y. operand_at os (w ∷ texts os a b c) 2 >>= (λ z. Ok (make x y z))))) ≡ Ok (make a b c)
 unfolding operand_at
 operands_read make w [] a b c h = rw (h.0, h.1, h.2)
 operands_read make w (o ∷ []) a b c h = rw (operand_back o a h.0, h.1, h.2)
@@ -96,14 +96,14 @@ operands_read make w (o ∷ p ∷ q ∷ []) a b c h = rw (operand_back o a h.0, 
 operands_read make w (o ∷ p ∷ q ∷ r ∷ os) a b c h = absurd h
 
 instruction_read : (o : Opcode) (a b c : ℕ) → Fits (row o).operands a b c
-  → instruction ((row o).word ∷ texts (row o).operands a b c) ≡ Ok ((row o).make a b c)
+    → instruction ((row o).word ∷ texts (row o).operands a b c) ≡ Ok ((row o).make a b c)
 unfolding instruction instruction_with
 instruction_read o a b c h =
     let os = (row o).operands in
     let count : nat_eq (suc (length os)) (length os + 1) ≡ true = eq-eqb _ _ (omega arith) in
     rw (opcode_of_word o, length-texts os a b c h, count) (operands_read (row o).make (row o).word os a b c h)
 
-answered : (n : ℕ) (r : Result Instr Why) (i : Instr) → r ≡ Ok i → elim r as (λ _. Result Instr BadLine) [ Ok j ↦ Ok j | Err cause ↦ Err (bad n cause) ] ≡ Ok i
+answered : (n : ℕ) (r : Result Instr Why) (i : Instr) → r ≡ Ok i → elim r as (λ _. Result Instr BadLine) [ Ok j ↦ Ok j | Err cause ↦ Err (bad_line n cause) ] ≡ Ok i
 answered n (Ok j) i h = cc
 answered n (Err cause) i h = cc
 
@@ -126,4 +126,4 @@ program_of_shown i valid =
     let fit = parts_fit i valid in
     let read = instruction_read p.opcode p.first p.second p.third fit ∙ ap Ok (made_of_parts i) in
     rw (text_spaced o.word o.operands p.first p.second p.third fit)
-      (program_spaced o.word (texts o.operands p.first p.second p.third) i (word_shown p.opcode) (texts_shown o.operands p.first p.second p.third fit) read)
+    (program_spaced o.word (texts o.operands p.first p.second p.third) i (word_shown p.opcode) (texts_shown o.operands p.first p.second p.third fit) read)

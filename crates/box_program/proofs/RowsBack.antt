@@ -1,5 +1,5 @@
 -- Each row of the table of instruction words: its word is shown and named as it is, and an instruction is made again of its parts.
-use Rattle.std.proofs.Common.{◌≡◌, ℕ, ◌≤◌, Bool, true, false, not, ◌&&◌, nat_le, List, [], ◌∷◌, Some, refl}
+use Rattle.std.proofs.Common.{◌≡◌, ℕ, Bool, true, false, not, ◌&&◌, nat_le, List, [], ◌∷◌, Some, refl}
 use Rattle.std.specs.Prelude.{nat_eq}
 use Rattle.std.specs.List.{list_all}
 use Rattle.std.proofs.lemmas.Bool.{leb-true}
@@ -12,7 +12,7 @@ use Rattle.box_program.specs.declared.opcodes.Operand.{Operand}
 use Rattle.box_program.specs.Opcodes.{row, opcodes, is_named, opcode_of, parts_of}
 use Rattle.box_program.specs.Words.{has_bytes}
 use Rattle.box_program.proofs.ValidLemmas.{IsOperand}
-use Rattle.box_program.proofs.WordsBack.{IsSolid, AllSolid, IsShownWord}
+use Rattle.box_program.proofs.WordsBack.{AllSolid, IsShownWord}
 
 both : (a b : Bool) → (a && b) ≡ true → (a ≡ true) × (b ≡ true)
 both true b h = (refl, h)

@@ -1,9 +1,9 @@
 -- What an instruction line gives has the operands of a program text.
-use Rattle.std.proofs.Common.{◌≡◌, ℕ, ◌+◌, ◌≤◌, ◌<◌, Bool, true, false, cond, List, [], ◌∷◌, length, Option, Some, None, Result, Ok, Err, refl, sym, ◌∙◌, ap, arith}
-use Rattle.std.specs.Prelude.{MatchOption, slice_get, IfOk}
+use Rattle.std.proofs.Common.{◌≡◌, ℕ, ◌+◌, ◌≤◌, List, Option, Some, None, Ok, arith}
+use Rattle.std.specs.Prelude.{MatchOption, slice_get}
 use Rattle.std.specs.Option.{ok_or, option_map_or}
 use Rattle.std.proofs.lemmas.Bool.Decides.{nat_tests}
-use Rattle.flat_model.specs.Operands.{IsRegister, IsWord, IsSmall, IsLooks, IsValidInstr}
+use Rattle.flat_model.specs.Operands.{IsRegister, IsWord, IsSmall, IsLookCount, IsValidInstr}
 use Rattle.flat_model.specs.declared.instructions.Why.TheVariants as why
 use Rattle.box_program.specs.declared.opcodes.Opcode.{Opcode}
 use Rattle.box_program.specs.declared.opcodes.Opcode.TheVariants as op
@@ -11,14 +11,14 @@ use Rattle.box_program.specs.declared.opcodes.Operand.{Operand}
 use Rattle.box_program.specs.declared.opcodes.Operand.TheVariants.{Register, Word, Small, Looks}
 use Rattle.box_program.specs.Numbers.{number}
 use Rattle.box_program.specs.Opcodes.{row}
-use Rattle.box_program.specs.Program.{◌>>=◌, register, within, operand, operand_at}
+use Rattle.box_program.specs.Program.{◌>>=◌, register, number_within, operand, operand_at}
 
 -- the number is one that the operand can have
 abbrev pub IsOperand : Operand → ℕ → Type 0
 IsOperand Register n = IsRegister n
 IsOperand Word n = IsWord n
 IsOperand Small n = IsSmall n
-IsOperand Looks n = IsLooks n
+IsOperand Looks n = IsLookCount n
 
 -- the number is one that the operand at a place can have, where there is one
 abbrev pub FitsAt : List Operand → ℕ → ℕ → Type 0
@@ -32,20 +32,20 @@ pub register_is : (word : List ℕ) (n : ℕ) → register word ≡ Some n → I
 unfolding register
 register_is word n h = grind (arith, nat_tests)
 
-pub within_is : (low high : ℕ) (o : Option ℕ) (n : ℕ) → within low high o ≡ Some n → (low ≤ n) × (n ≤ high)
-unfolding within
-within_is low high None n h = cc
-within_is low high (Some m) n h = grind (arith, nat_tests)
+pub number_within_is : (low high : ℕ) (o : Option ℕ) (n : ℕ) → number_within low high o ≡ Some n → (low ≤ n) × (n ≤ high)
+unfolding number_within
+number_within_is low high None n h = cc
+number_within_is low high (Some m) n h = grind (arith, nat_tests)
 
 pub operand_is : (o : Operand) (word : List ℕ) (n : ℕ) → operand o word ≡ Ok n → IsOperand o n
 unfolding operand
 operand_is Register word n h = register_is word n (value_from_ok_or _ _ n h)
-operand_is Word word n h = let bounds = within_is 0 4294967295 (number word) n (value_from_ok_or _ _ n h) in omega (arith, bounds)
-operand_is Small word n h = let bounds = within_is 0 65535 (number word) n (value_from_ok_or _ _ n h) in omega (arith, bounds)
-operand_is Looks word n h = let bounds = within_is 1 65535 (number word) n (value_from_ok_or _ _ n h) in (bounds.0, omega (arith, bounds))
+operand_is Word word n h = let bounds = number_within_is 0 4294967295 (number word) n (value_from_ok_or _ _ n h) in omega (arith, bounds)
+operand_is Small word n h = let bounds = number_within_is 0 65535 (number word) n (value_from_ok_or _ _ n h) in omega (arith, bounds)
+operand_is Looks word n h = let bounds = number_within_is 1 65535 (number word) n (value_from_ok_or _ _ n h) in (bounds.0, omega (arith, bounds))
 
 operand_at_in : (o : Option Operand) (w : Option (List ℕ)) (n : ℕ)
-  → option_map_or (λ k. ok_or w why.Count >>= operand k) o (Ok 0) ≡ Ok n → MatchOption o (Unit {0}) (λ k. IsOperand k n)
+    → option_map_or (λ k. ok_or w why.Count >>= operand k) o (Ok 0) ≡ Ok n → MatchOption o (Unit {0}) (λ k. IsOperand k n)
 operand_at_in None w n h = tt
 operand_at_in (Some k) None n h = cc
 operand_at_in (Some k) (Some word) n h = operand_is k word n h

@@ -1,7 +1,7 @@
 -- The words of a line that is made of words and spaces.
-use Rattle.std.proofs.Common.{◌≡◌, ℕ, ◌+◌, ◌<◌, ◌≤◌, Bool, true, false, not, eqb, List, [], ◌∷◌, ◌++◌, length, take, refl, sym, ap, ◌∙◌, arith, append-nil, append_assoc}
+use Rattle.std.proofs.Common.{◌≡◌, ℕ, ◌≤◌, true, false, not, List, [], ◌∷◌, ◌++◌, length, refl, ap, ◌∙◌, arith, append-nil}
 use Rattle.std.specs.Prelude.{nat_eq, filter}
-use Rattle.std.specs.List.{slice_split, onto_first, prefix_len, position_or_len}
+use Rattle.std.specs.List.{slice_split, prefix_len}
 use Rattle.std.proofs.Math.Seq.{take-length}
 use Rattle.std.proofs.lemmas.Bool.{ne_eqb}
 use Rattle.box_program.specs.Words.{is_line_feed, is_semicolon, is_blank, has_bytes, lines, code_part, words}

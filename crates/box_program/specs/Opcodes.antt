@@ -15,7 +15,7 @@ pub record Row : Type 0 where
   pub operands : List Operand
   pub make : ℕ → ℕ → ℕ → Instr
 
--- the table
+-- the row of each kind of instruction
 unfoldable pub row : Opcode → Row
 row op.Set = record { word = codes "set"; operands = Register ∷ Word ∷ []; make = λ d w _. instr.Set d w }
 row op.Mov = record { word = codes "mov"; operands = Register ∷ Register ∷ []; make = λ d s _. instr.Mov d s }
@@ -51,7 +51,12 @@ row op.Halt = record { word = codes "halt"; operands = []; make = λ _ _ _. inst
 
 -- every kind of instruction, in the order of the table
 unfoldable pub opcodes : List Opcode
-opcodes = op.Set ∷ op.Mov ∷ op.Add ∷ op.Sub ∷ op.And ∷ op.Orr ∷ op.Eor ∷ op.Load8 ∷ op.Load16 ∷ op.Load32 ∷ op.Store8 ∷ op.Store16 ∷ op.Store32 ∷ op.Exec ∷ op.Jump ∷ op.Jz ∷ op.Jnz ∷ op.BoxId ∷ op.PagesAlloc ∷ op.PageFree ∷ op.IrqOn ∷ op.IrqOff ∷ op.IrqReturn ∷ op.GwRead ∷ op.GwWrite ∷ op.RpcCall ∷ op.RpcSync ∷ op.RpcTake ∷ op.RpcReturn ∷ op.RpcResult ∷ op.Halt ∷ []
+opcodes =
+    op.Set ∷ op.Mov ∷ op.Add ∷ op.Sub ∷ op.And ∷ op.Orr ∷ op.Eor ∷ op.Load8 ∷ op.Load16 ∷
+    op.Load32 ∷ op.Store8 ∷ op.Store16 ∷ op.Store32 ∷ op.Exec ∷ op.Jump ∷ op.Jz ∷ op.Jnz ∷
+    op.BoxId ∷ op.PagesAlloc ∷ op.PageFree ∷ op.IrqOn ∷ op.IrqOff ∷ op.IrqReturn ∷ op.GwRead ∷
+    op.GwWrite ∷ op.RpcCall ∷ op.RpcSync ∷ op.RpcTake ∷ op.RpcReturn ∷ op.RpcResult ∷ op.Halt ∷
+    []
 
 -- whether the word names the kind of instruction
 unfoldable pub is_named : Opcode → List ℕ → Bool

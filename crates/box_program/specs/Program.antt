@@ -1,5 +1,5 @@
 -- The program of a text, or its first bad line and why that line is refused.
-use Rattle.std.specs.Prelude.{◌≡◌, ℕ, ◌+◌, ◌-◌, min, Bool, ◌==◌, ◌&&◌, not, nat_le, List, [], ◌∷◌, ◌++◌, length, map, filter, slice_get, slice_index, Option, Some, None, option_and_then, Result, Ok, Err, if◌then◌else◌, Vec}
+use Rattle.std.specs.Prelude.{◌≡◌, ℕ, ◌+◌, ◌-◌, min, Bool, ◌==◌, ◌&&◌, not, nat_le, List, [], ◌∷◌, length, map, filter, slice_get, slice_index, Option, Some, None, option_and_then, Result, Ok, Err, if◌then◌else◌, Vec}
 use Rattle.std.specs.List.{enumerate_from}
 use Rattle.std.specs.Option.{ok_or, option_map_or}
 use Rattle.flat_model.specs.declared.instructions.Instr.{Instr}
@@ -16,7 +16,6 @@ use Rattle.box_program.specs.Opcodes.{row, opcode_of}
 use Rattle.box_program.specs.Words.{lines, words}
 
 infixl 10 ◌>>=◌
-
 -- what follows from an answer's value, or its error
 abbrev pub ◌>>=◌ : {A B E : Type 0} → Result A E → (A → Result B E) → Result B E
 (Ok a) >>= f = f a
@@ -27,15 +26,15 @@ unfoldable pub register : List ℕ → Option ℕ
 register word = if length word == 2 && slice_index word 0 == 114 && nat_le 48 (slice_index word 1) && nat_le (slice_index word 1) 55 then Some (slice_index word 1 - 48) else None
 
 -- the number, where it is between two bounds
-unfoldable pub within : ℕ → ℕ → Option ℕ → Option ℕ
-within low high n = option_and_then (λ m. if nat_le low m && nat_le m high then Some m else None) n
+unfoldable pub number_within : ℕ → ℕ → Option ℕ → Option ℕ
+number_within low high n = option_and_then (λ m. if nat_le low m && nat_le m high then Some m else None) n
 
 -- the value of a word as an operand
 unfoldable pub operand : Operand → List ℕ → Result ℕ Why
 operand Register word = ok_or (register word) why.Register
-operand Word word = ok_or (within 0 4294967295 (number word)) why.Number
-operand Small word = ok_or (within 0 65535 (number word)) why.Number
-operand Looks word = ok_or (within 1 65535 (number word)) why.Number
+operand Word word = ok_or (number_within 0 4294967295 (number word)) why.Number
+operand Small word = ok_or (number_within 0 65535 (number word)) why.Number
+operand Looks word = ok_or (number_within 1 65535 (number word)) why.Number
 
 -- the value of the operand at a place, and 0 past the operands
 unfoldable pub operand_at : List Operand → List (List ℕ) → ℕ → Result ℕ Why
@@ -75,17 +74,17 @@ unfoldable pub statements : ℕ → List (List ℕ) → List Statement
 statements first ls = filter has_words (map statement (enumerate_from first ls))
 
 -- a bad line: a number that no `u32` has is the greatest one
-unfoldable pub bad : ℕ → Why → BadLine
-bad line cause = record { line = min line 4294967295; why = cause }
+unfoldable pub bad_line : ℕ → Why → BadLine
+bad_line line cause = record { line = min line 4294967295; why = cause }
 
 -- the instruction of a statement
 unfoldable pub instruction_at : Statement → Result Instr BadLine
-instruction_at s = elim (instruction s.words) [ Ok i ↦ Ok i | Err cause ↦ Err (bad s.line cause) ]
+instruction_at s = elim (instruction s.words) [ Ok i ↦ Ok i | Err cause ↦ Err (bad_line s.line cause) ]
 
 -- the instructions of statements that stand after others, of which there are `before`: a program has at most 256
 unfoldable pub instructions : ℕ → List Statement → Result (List Instr) BadLine
 instructions before [] = Ok []
-instructions before (s ∷ ss) = if nat_le 256 before then Err (bad s.line why.TooMany) else (do
+instructions before (s ∷ ss) = if nat_le 256 before then Err (bad_line s.line why.TooMany) else (do
   i ← instruction_at s
   is ← instructions (before + 1) ss
   Ok (i ∷ is))

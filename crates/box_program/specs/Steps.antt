@@ -5,15 +5,15 @@ use Rattle.flat_model.specs.declared.instructions.BadLine.{BadLine}
 use Rattle.flat_model.specs.declared.instructions.AssembleErr.{AssembleErr}
 use Rattle.flat_model.specs.declared.instructions.AssembleErr.TheVariants.{Bad, Memory}
 use Rattle.flat_model.specs.declared.instructions.Why.TheVariants as why
-use Rattle.box_program.specs.Program.{◌>>=◌, Statement, statement, has_words, bad, instruction_at}
+use Rattle.box_program.specs.Program.{◌>>=◌, Statement, statement, has_words, bad_line, instruction_at}
 
 -- instructions and those that follow them
-unfoldable pub after : List Instr → Result (List Instr) BadLine → Result (List Instr) BadLine
-after done rest = rest >>= (λ is. Ok (done ++ is))
+unfoldable pub followed_by : List Instr → Result (List Instr) BadLine → Result (List Instr) BadLine
+followed_by done rest = rest >>= (λ is. Ok (done ++ is))
 
 -- the instructions and that of one more statement
 unfoldable pub with_statement : List Instr → Statement → Result (List Instr) BadLine
-with_statement done s = if nat_le 256 (length done) then Err (bad s.line why.TooMany) else (instruction_at s >>= (λ i. Ok (done ++ i ∷ [])))
+with_statement done s = if nat_le 256 (length done) then Err (bad_line s.line why.TooMany) else (instruction_at s >>= (λ i. Ok (done ++ i ∷ [])))
 
 -- the instructions and that of one more line, if it has words
 unfoldable pub with_line : List Instr → ℕ → List ℕ → Result (List Instr) BadLine

@@ -3,7 +3,7 @@ ghost use Rattle.flat_model.specs.Operands.{IsValidInstr};
 ghost use Rattle.box_program.specs.Words.{words};
 ghost use Rattle.box_program.specs.Numbers.{number};
 ghost use Rattle.box_program.specs.Opcodes.{row};
-ghost use Rattle.box_program.specs.Program.{register, within, operand, operand_at, instruction_with, instruction, bad, program, Assembles};
+ghost use Rattle.box_program.specs.Program.{register, number_within, operand, operand_at, instruction_with, instruction, bad_line, program, Assembles};
 ghost use Rattle.box_program.specs.Steps.{with_line, Pushes};
 ghost use Rattle.flat_model.specs.declared.instructions.AssembleErr.TheVariants.{Bad};
 
@@ -29,9 +29,9 @@ fn register(word: &[u8]) -> Option<u32>
 }
 
 /// The number that a word writes, where it is between two bounds.
-#[tactic(auto, unfolding(crate::specs::Program::within))]
+#[tactic(auto, unfolding(crate::specs::Program::number_within))]
 fn number_within(low: u32, high: u32, word: &[u8]) -> Option<u32>
-    ensures { result ≡ within low high (number word.now) }
+    ensures { result ≡ number_within low high (number word.now) }
 {
     let n = u32::try_from(number(word)?).ok()?;
     (low <= n && n <= high).then_some(n)
@@ -88,9 +88,9 @@ fn instruction(line: &[u8]) -> Result<Instr, Why>
     }
 }
 
-#[tactic(auto, unfolding(crate::specs::Program::bad))]
-fn bad(line: u32, why: Why) -> AssembleErr
-    ensures { result ≡ Bad (bad line why) }
+#[tactic(auto, unfolding(crate::specs::Program::bad_line))]
+fn bad_line(line: u32, why: Why) -> AssembleErr
+    ensures { result ≡ Bad (bad_line line why) }
 {
     AssembleErr::Bad(BadLine { line, why })
 }
@@ -104,11 +104,11 @@ fn push_line(program: &mut Vec<Instr>, number: u32, line: &[u8]) -> Result<(), A
         return Ok(());
     }
     if program.len() >= MOST_INSTRUCTIONS {
-        return Err(bad(number, Why::TooMany));
+        return Err(bad_line(number, Why::TooMany));
     }
     match instruction(line) {
         Ok(instr) => program.push(instr).map_err(|_| AssembleErr::Memory),
-        Err(why) => Err(bad(number, why)),
+        Err(why) => Err(bad_line(number, why)),
     }
 }
 

@@ -23,7 +23,11 @@ fn hexadecimal_digit(digit: u32) -> u8
     ensures value { result ≡ digit_glyph true digit }
     ensures ascii { result < 128 }
 {
-    if digit < 10 { b'0' + digit as u8 } else { b'A' - 10 + digit as u8 }
+    if digit < 10 {
+        b'0' + digit as u8
+    } else {
+        b'A' - 10 + digit as u8
+    }
 }
 
 #[tactic(auto, unfolding(crate::specs::Shown::hexadecimal_digits))]

@@ -49,7 +49,10 @@ fn code_part(line: &[u8]) -> &[u8]
 pub fn word_at(line: &[u8], place: usize) -> Option<&[u8]>
     ensures { option_copied result ≡ slice_get (words line.now) place }
 {
-    code_part(line).split(|b| is_blank(*b)).filter(|word| has_bytes(word)).nth(place)
+    code_part(line)
+        .split(|b| is_blank(*b))
+        .filter(|word| has_bytes(word))
+        .nth(place)
 }
 
 /// How many words a line has.
@@ -57,5 +60,8 @@ pub fn word_at(line: &[u8], place: usize) -> Option<&[u8]>
 pub fn word_count(line: &[u8]) -> usize
     ensures { result ≡ length (words line.now) }
 {
-    code_part(line).split(|b| is_blank(*b)).filter(|word| has_bytes(word)).count()
+    code_part(line)
+        .split(|b| is_blank(*b))
+        .filter(|word| has_bytes(word))
+        .count()
 }

@@ -1,9 +1,8 @@
 -- The region pairs of a range: how many, which addresses, which kinds, and that they are valid.
-use Rattle.std.proofs.Common.{◌≡◌, ◌≢◌, ℕ, zero, suc, ◌+◌, ◌-◌, ◌*◌, ◌/◌, ◌%◌, ◌^◌, ◌<◌, ◌≤◌, Bool, true, false, List, [], ◌∷◌, length, map, refl, sym, ◌∙◌, ap, subst, arith, inl, inr, ◌⊎◌}
-use Rattle.std.specs.Prelude.{◌&&◌, ◌||◌, nat_le, nat_lt, if◌then◌else◌}
+use Rattle.std.proofs.Common.{◌≡◌, ◌≢◌, ℕ, ◌+◌, ◌-◌, ◌*◌, ◌/◌, ◌%◌, ◌^◌, ◌<◌, ◌≤◌, Bool, true, false, List, [], ◌∷◌, length, map, refl, sym, ◌∙◌, ap, arith, inr}
+use Rattle.std.specs.Prelude.{nat_le, nat_lt, if◌then◌else◌}
 use Rattle.std.specs.List.{AllByRecursion, list_any}
 use Rattle.std.proofs.lemmas.Bool.{and_parts, and_from, leb-true, ltb-true, le-leb, lt-ltb}
-use Rattle.std.proofs.lemmas.Nat.{pow_pos}
 use Rattle.std.proofs.Math.ListN.{length-map}
 use Rattle.addr_base.specs.Range.{end_of, in_range}
 use Rattle.addr_base.specs.Rights.{gives, may_execute, may_read, may_write}
@@ -11,7 +10,7 @@ use Rattle.addr_base.specs.declared.pairs.Pair.{Pair}
 use Rattle.addr_base.specs.declared.ranges.Range.{Range}
 use Rattle.addr_base.specs.declared.rights.Kind.{Kind}
 use Rattle.addr_base.specs.declared.rights.Rights.{Rights}
-use Rattle.flat_model.specs.Cover.{Block, NO_ACCESS, access_of, attributes, block_pair, blocks, cover_blocks, cover_of, exponent_of, never_of, pair_of}
+use Rattle.flat_model.specs.Cover.{Block, NO_ACCESS, access_of, attributes, block_pair, cover_blocks, cover_of, exponent_of, never_of, pair_of}
 use Rattle.flat_model.specs.Decision.{is_region, matches, pair_gives}
 use Rattle.flat_model.proofs.Blocks.{IsBlock, IsSpan, each-blocks, in_block, length-blocks, list_any-blocks}
 use Rattle.flat_model.proofs.Elements.{each-map}
@@ -34,28 +33,28 @@ pub record IsOneBlock (range : Range) : Type 0 where
 pub block_fields : (block : Block) (access never : ℕ) → 5 ≤ block.exponent → block.exponent < 32 → access < 8 → never < 2 → HasFields (block_pair (1 + 2 ^ 24 * access + 2 ^ 28 * never) block) (block.exponent - 1) 0 access never
 block_fields block access never enough limit accesses nevers =
     HasFields-from_rasr (block_pair (1 + 2 ^ 24 * access + 2 ^ 28 * never) block) (block.exponent - 1) 0 access never
-        (omega arith) (omega arith) accesses nevers (omega arith)
+    (omega arith) (omega arith) accesses nevers (omega arith)
 
 access_below : (rights : Rights) → access_of rights < 8
 access_below rights = below (may_write rights)
- where
-  below : (w : Bool) → (if w then 3 else 6) < 8
-  below true = omega arith
-  below false = omega arith
+  where
+    below : (w : Bool) → (if w then 3 else 6) < 8
+    below true = omega arith
+    below false = omega arith
 
 access_known : (rights : Rights) → access_of rights ≢ 4
 access_known rights = known (may_write rights)
- where
-  known : (w : Bool) → (let access : ℕ = if w then 3 else 6 in access ≢ 4)
-  known true = λ e. absurd (omega (arith, e))
-  known false = λ e. absurd (omega (arith, e))
+  where
+    known : (w : Bool) → (let access : ℕ = if w then 3 else 6 in access ≢ 4)
+    known true = λ e. absurd (omega (arith, e))
+    known false = λ e. absurd (omega (arith, e))
 
 never_below : (rights : Rights) → never_of rights < 2
 never_below rights = below (may_execute rights)
- where
-  below : (x : Bool) → (if x then 0 else 1) < 2
-  below true = omega arith
-  below false = omega arith
+  where
+    below : (x : Bool) → (if x then 0 else 1) < 2
+    below true = omega arith
+    below false = omega arith
 
 pub rights_fields : (block : Block) (rights : Rights) → 5 ≤ block.exponent → block.exponent < 32 → HasFields (block_pair (attributes rights) block) (block.exponent - 1) 0 (access_of rights) (never_of rights)
 rights_fields block rights enough limit =
@@ -65,7 +64,7 @@ rights_fields block rights enough limit =
 pub matches-block : (block : Block) (rights : Rights) → 5 ≤ block.exponent → block.exponent < 32 → (a : ℕ) → matches (block_pair (attributes rights) block) a ≡ in_block block a
 matches-block block rights enough limit a =
     matches-plain (block_pair (attributes rights) block) block.exponent (access_of rights) (never_of rights) enough
-        (rights_fields block rights enough limit) a
+    (rights_fields block rights enough limit) a
 
 -- a pair of the cover of a range
 pub record OfCover (range : Range) (rights : Rights) (p : Pair) : Type 0 where
@@ -78,13 +77,13 @@ OfCover-block range rights reads block it =
     let has = rights_fields block rights it.enough it.limit in
     let p : Pair = block_pair (attributes rights) block in
     record {
-        valid = is_region-fields p block.exponent 0 (access_of rights) (never_of rights) it.enough (inr refl) (access_known rights) has it.whole;
-        given = pair_gives-attributes p (block.exponent - 1) 0 rights reads has;
-        inside = λ a found.
-            let here = and_parts (nat_le block.base a) (nat_lt a (block.base + 2 ^ block.exponent)) (sym (matches-block block rights it.enough it.limit a) ∙ found) in
-            and_from (nat_le range.base a) (nat_lt a (end_of range))
-                (le-leb range.base a (omega (arith, it.after, leb-true block.base a here.0)))
-                (lt-ltb a (end_of range) (omega (arith, it.within, ltb-true a (block.base + 2 ^ block.exponent) here.1)));
+      valid = is_region-fields p block.exponent 0 (access_of rights) (never_of rights) it.enough (inr refl) (access_known rights) has it.whole;
+      given = pair_gives-attributes p (block.exponent - 1) 0 rights reads has;
+      inside = λ a found.
+          let here = and_parts (nat_le block.base a) (nat_lt a (block.base + 2 ^ block.exponent)) (sym (matches-block block rights it.enough it.limit a) ∙ found) in
+          and_from (nat_le range.base a) (nat_lt a (end_of range))
+          (le-leb range.base a (omega (arith, it.after, leb-true block.base a here.0)))
+          (lt-ltb a (end_of range) (omega (arith, it.within, ltb-true a (block.base + 2 ^ block.exponent) here.1)));
     }
 
 pub IsSpan-range : (range : Range) → IsTiled range → IsSpan range.base (end_of range)
@@ -95,14 +94,14 @@ IsSpan-range range tiled =
 pub length-cover_of : (range : Range) (rights : Rights) → IsTiled range → length (cover_of range rights) ≤ 54
 length-cover_of range rights tiled =
     rw (length-map (cover_blocks range) (block_pair (attributes rights)))
-        (length-blocks (range.len / 32) range.base (end_of range) (IsSpan-range range tiled))
+    (length-blocks (range.len / 32) range.base (end_of range) (IsSpan-range range tiled))
 
 -- each pair is valid, gives the rights and stays inside
 pub each-cover_of : (range : Range) (rights : Rights) → IsTiled range → may_read rights ≡ true → AllByRecursion (OfCover range rights) (cover_of range rights)
 each-cover_of range rights tiled reads =
     each-map (block_pair (attributes rights)) (IsBlock range.base (end_of range)) (OfCover range rights)
-        (OfCover-block range rights reads) (cover_blocks range)
-        (each-blocks (range.len / 32) range.base (end_of range) range.base (IsSpan-range range tiled) (omega arith))
+    (OfCover-block range rights reads) (cover_blocks range)
+    (each-blocks (range.len / 32) range.base (end_of range) range.base (IsSpan-range range tiled) (omega arith))
 
 matched_as_blocks : (rights : Rights) (a p e : ℕ) (bs : List Block) → AllByRecursion (IsBlock p e) bs → list_any (λ q. matches q a) (map (block_pair (attributes rights)) bs) ≡ list_any (λ b. in_block b a) bs
 matched_as_blocks rights a p e [] each = refl
@@ -113,7 +112,7 @@ matched_as_blocks rights a p e (b ∷ bs) each =
 pub list_any-cover_of : (range : Range) (rights : Rights) → IsTiled range → (a : ℕ) → list_any (λ p. matches p a) (cover_of range rights) ≡ in_range range a
 list_any-cover_of range rights tiled a =
     matched_as_blocks rights a range.base (end_of range) (cover_blocks range)
-        (each-blocks (range.len / 32) range.base (end_of range) range.base (IsSpan-range range tiled) (omega arith))
+    (each-blocks (range.len / 32) range.base (end_of range) range.base (IsSpan-range range tiled) (omega arith))
     ∙ list_any-blocks (range.len / 32) range.base (end_of range) a (IsSpan-range range tiled) (omega (arith, tiled.len_whole))
 
 -- the one region of a range has exactly its addresses
@@ -123,7 +122,7 @@ matches-pair_of range access never accesses nevers it a =
     let b : Block = record { base = range.base; exponent = it.exponent } in
     let same : pair_of range (1 + 2 ^ 24 * access + 2 ^ 28 * never) ≡ block_pair (1 + 2 ^ 24 * access + 2 ^ 28 * never) b = rw e refl in
     ap (λ p. matches p a) same ∙ rw it.is_power
-        (matches-plain (block_pair (1 + 2 ^ 24 * access + 2 ^ 28 * never) b) it.exponent access never it.enough (block_fields b access never it.enough it.limit accesses nevers) a)
+    (matches-plain (block_pair (1 + 2 ^ 24 * access + 2 ^ 28 * never) b) it.exponent access never it.enough (block_fields b access never it.enough it.limit accesses nevers) a)
 
 -- and it is valid
 pub is_region-pair_of : (range : Range) (access never : ℕ) → access < 8 → access ≢ 4 → never < 2 → (it : IsOneBlock range) → is_region (pair_of range (1 + 2 ^ 24 * access + 2 ^ 28 * never)) ≡ true
@@ -131,8 +130,8 @@ is_region-pair_of range access never accesses known nevers it =
     let e : exponent_of range.len ≡ it.exponent = exponent_of-pow it.exponent range.len it.limit it.is_power in
     let b : Block = record { base = range.base; exponent = it.exponent } in
     let same : pair_of range (1 + 2 ^ 24 * access + 2 ^ 28 * never) ≡ block_pair (1 + 2 ^ 24 * access + 2 ^ 28 * never) b = rw e refl in
-    ap is_region same ∙ 
-        (is_region-fields (block_pair (1 + 2 ^ 24 * access + 2 ^ 28 * never) b) it.exponent 0 access never it.enough (inr refl) known (block_fields b access never it.enough it.limit accesses nevers) it.whole)
+    ap is_region same ∙
+    (is_region-fields (block_pair (1 + 2 ^ 24 * access + 2 ^ 28 * never) b) it.exponent 0 access never it.enough (inr refl) known (block_fields b access never it.enough it.limit accesses nevers) it.whole)
 
 pub matches-pair_of_rights : (range : Range) (rights : Rights) → IsOneBlock range → (a : ℕ) → matches (pair_of range (attributes rights)) a ≡ in_range range a
 matches-pair_of_rights range rights it a =

@@ -1,5 +1,5 @@
 -- What holds of each element of a list, and elements by their index.
-use Rattle.std.proofs.Common.{◌≡◌, ◌≢◌, ℕ, zero, suc, ◌+◌, ◌<◌, ◌≤◌, Bool, true, false, ◌||◌, List, [], ◌∷◌, ◌++◌, length, map, Option, Some, None, refl, sym, ◌∙◌, ap, arith, inl, inr, ◌⊎◌, set}
+use Rattle.std.proofs.Common.{◌≡◌, ◌≢◌, ℕ, zero, suc, ◌<◌, Bool, true, List, [], ◌∷◌, ◌++◌, length, map, Some, refl, ◌∙◌, ap, arith, inl, inr, set}
 use Rattle.std.specs.List.{AllByRecursion, list_any, slice_get, flat_map}
 use Rattle.std.proofs.lemmas.Bool.{or_cases, or_left, or_right, false≢true}
 
@@ -39,7 +39,7 @@ module _ {X : Type 0} (p : X → Bool) where
   pub list_any_found : (xs : List X) → list_any p xs ≡ true → (i : ℕ) × (x : X) × (slice_get xs i ≡ Some x) × (p x ≡ true)
   list_any_found [] some = absurd (false≢true some)
   list_any_found (x ∷ xs) some = elim (or_cases (p x) (list_any p xs) some) [
-      inl here ↦ (0, x, refl, here)
+    | inl here ↦ (0, x, refl, here)
     | inr later ↦ let rest = list_any_found xs later in (suc rest.0, rest.1, rest.2, rest.3)
   ]
 

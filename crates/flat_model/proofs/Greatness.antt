@@ -1,23 +1,23 @@
 -- What the greatest number of a set says of the set.
-use Rattle.std.proofs.Common.{◌≡◌, ℕ, zero, suc, ◌+◌, ◌<◌, ◌≤◌, Bool, true, false, Option, Some, None, refl, sym, ◌∙◌, ap, arith, inl, inr}
+use Rattle.std.proofs.Common.{◌≡◌, ℕ, zero, suc, Bool, true, false, Option, Some, None, refl, sym, ◌∙◌, ap, arith, inl, inr}
 use Rattle.std.specs.Prelude.{if◌then◌else◌}
 use Rattle.std.proofs.lemmas.Bool.{cases_Bool, false≢true, cases_order}
-use Rattle.flat_model.specs.Greatest.{greatest, IsGreatest, Says}
+use Rattle.flat_model.specs.Greatest.{greatest, Says}
 
 -- a greater bound keeps the answer where the set lacks the new number
 Says_more-without : (has : ℕ → Bool) (n : ℕ) (o : Option ℕ) → has n ≡ false → Says has n o → Says has (suc n) o
 Says_more-without has n None none says = λ j below.
     elim (cases_order j n) [
-        inl same ↦ ap has same ∙ none
+      | inl same ↦ ap has same ∙ none
       | inr rest ↦ says j (omega arith)
     ]
 Says_more-without has n (Some s) none says = record {
-    below = omega (arith, says.below);
-    here = says.here;
-    above = λ j after below. elim (cases_order j n) [
-        inl same ↦ ap has same ∙ none
-      | inr rest ↦ says.above j after (omega arith)
-    ];
+  below = omega (arith, says.below);
+  here = says.here;
+  above = λ j after below. elim (cases_order j n) [
+    | inl same ↦ ap has same ∙ none
+    | inr rest ↦ says.above j after (omega arith)
+  ];
 }
 
 -- a number that the set has is the greatest below the next
@@ -28,7 +28,7 @@ Says_more-with has n here =
 -- one more number below the bound
 pub Says_more : (has : ℕ → Bool) (n : ℕ) (o : Option ℕ) → Says has n o → Says has (suc n) (if has n then Some n else o)
 Says_more has n o says = elim (cases_Bool (has n)) [
-    inl here ↦ rw here (Says_more-with has n here)
+  | inl here ↦ rw here (Says_more-with has n here)
   | inr none ↦ rw none (Says_more-without has n o none says)
 ]
 
@@ -44,11 +44,11 @@ Says_same has n None None first second = refl
 Says_same has n None (Some s) first second = absurd (false≢true (sym (first s second.below) ∙ second.here))
 Says_same has n (Some s) None first second = absurd (false≢true (sym (second s first.below) ∙ first.here))
 Says_same has n (Some s) (Some t) first second = elim (cases_order s t) [
-    inl same ↦ ap Some same
+  | inl same ↦ ap Some same
   | inr rest ↦ elim rest [
-        inl less ↦ absurd (false≢true (sym (first.above t less second.below) ∙ second.here))
-      | inr more ↦ absurd (false≢true (sym (second.above s more first.below) ∙ first.here))
-    ]
+    | inl less ↦ absurd (false≢true (sym (first.above t less second.below) ∙ second.here))
+    | inr more ↦ absurd (false≢true (sym (second.above s more first.below) ∙ first.here))
+  ]
 ]
 
 -- an answer that says this is the definition's

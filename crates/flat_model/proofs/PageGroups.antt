@@ -1,16 +1,16 @@
 -- What the region of a page group says.
-use Rattle.std.proofs.Common.{◌≡◌, ◌≢◌, ℕ, zero, suc, ◌+◌, ◌-◌, ◌*◌, ◌/◌, ◌%◌, ◌^◌, ◌<◌, ◌≤◌, Bool, true, false, refl, sym, ◌∙◌, ap, subst, arith, inl, inr, ◌⊎◌}
-use Rattle.std.specs.Prelude.{◌&&◌, ◌||◌, not, nat_eq, nat_le, nat_lt, if◌then◌else◌}
-use Rattle.std.specs.Int.{w8, bit_at, bit_not}
+use Rattle.std.proofs.Common.{◌≡◌, ℕ, ◌+◌, ◌-◌, ◌*◌, ◌/◌, ◌%◌, ◌^◌, ◌<◌, ◌≤◌, Bool, true, false, refl, ap, subst, arith, inl}
+use Rattle.std.specs.Prelude.{◌&&◌, not, nat_eq, nat_le, nat_lt}
+use Rattle.std.specs.Int.{w8}
 use Rattle.std.proofs.lemmas.Bool.{le-leb, leb-true, ltb-true}
 use Rattle.std.proofs.lemmas.Bool.Decides.{nat_tests}
-use Rattle.std.proofs.lemmas.Nat.{pow_pos, pow_below, pow-add, div_below}
+use Rattle.std.proofs.lemmas.Nat.{pow_pos, pow-add, div_below}
 use Rattle.std.proofs.lemmas.Nat.Bits.{bit_at_not, bit_at-lt}
 use Rattle.addr_base.specs.declared.pairs.Pair.{Pair}
 use Rattle.addr_base.specs.declared.rights.Kind.{Kind}
 use Rattle.addr_base.specs.declared.rights.Kind.TheVariants.{Read, Write, Fetch}
 use Rattle.flat_model.specs.Cover.{exponent_of, group_pair}
-use Rattle.flat_model.specs.Decision.{size_field, subregions, region_len, is_enabled, region_contains, is_disabled, is_region, matches, pair_gives}
+use Rattle.flat_model.specs.Decision.{size_field, is_enabled, is_region, matches, pair_gives}
 use Rattle.flat_model.proofs.Fields.{HasFields, HasFields-from_rasr, exponent_of-pow, is_region-fields}
 
 -- a page has a power of two of bytes, from 32 to 65536
@@ -35,18 +35,19 @@ pub group_fields : (base page mask : ℕ) (it : IsPage page) → mask < 256 → 
 group_fields base page mask it small =
     let e : exponent_of page ≡ it.exponent = exponent_of-pow it.exponent page (omega (arith, it.high)) it.is_power in
     HasFields-from_rasr (group_pair base page mask) (it.exponent + 2) (255 - mask) 3 1
-        (omega (arith, it.high)) (omega arith) (omega arith) (omega arith) (rw e (omega arith))
+    (omega (arith, it.high)) (omega arith) (omega arith) (omega arith) (rw e (omega arith))
 
 -- the group's region gives reads and writes, and no fetch
 pub pair_gives-group : (base page mask : ℕ) (it : IsPage page) → mask < 256 → (kind : Kind) → pair_gives (group_pair base page mask) kind ≡ gives_pages kind
 pair_gives-group base page mask it small kind = given kind
- where
-  has : HasFields (group_pair base page mask) (it.exponent + 2) (255 - mask) 3 1
-  has = group_fields base page mask it small
-  given : (kind : Kind) → pair_gives (group_pair base page mask) kind ≡ gives_pages kind
-  given Read = rw has.access_is refl
-  given Write = rw has.access_is refl
-  given Fetch = rw (has.access_is, has.never_is) refl
+  where
+    has : HasFields (group_pair base page mask) (it.exponent + 2) (255 - mask) 3 1
+    has = group_fields base page mask it small
+
+    given : (kind : Kind) → pair_gives (group_pair base page mask) kind ≡ gives_pages kind
+    given Read = rw has.access_is refl
+    given Write = rw has.access_is refl
+    given Fetch = rw (has.access_is, has.never_is) refl
 
 -- the group's region is valid where the base is a multiple of eight pages
 pub is_region-group : (base page mask : ℕ) (it : IsPage page) → mask < 256 → base % (8 * page) ≡ 0 → is_region (group_pair base page mask) ≡ true
@@ -54,9 +55,9 @@ is_region-group base page mask it small whole =
     let k : ℕ = it.exponent in
     let eight : 2 ^ (k + 3) ≡ 8 * page = omega (arith, pow-add 2 k 3, it.is_power) in
     let has : HasFields (group_pair base page mask) ((k + 3) - 1) (255 - mask) 3 1 =
-        subst (λ s. HasFields (group_pair base page mask) s (255 - mask) 3 1) (omega arith) (group_fields base page mask it small) in
+    subst (λ s. HasFields (group_pair base page mask) s (255 - mask) 3 1) (omega arith) (group_fields base page mask it small) in
     is_region-fields (group_pair base page mask) (k + 3) (255 - mask) 3 1 (omega arith) (inl (omega (arith, it.low)))
-        (λ e. absurd (omega (arith, e))) has (rw eight whole)
+    (λ e. absurd (omega (arith, e))) has (rw eight whole)
 
 -- the group's region has exactly the pages whose bit is set
 pub matches-group : (base page mask a : ℕ) (it : IsPage page) → mask < 256 → matches (group_pair base page mask) a ≡ in_group base page mask a
@@ -68,22 +69,25 @@ matches-group base page mask a it small =
     let on : is_enabled p ≡ true = rw has.enable refl in
     let large : nat_le 7 (size_field p) ≡ true = le-leb 7 (size_field p) (omega (arith, has.size_is, it.low)) in
     rw (on, large, eight, eighth, has.srd_is) (settled (nat_le base a) (nat_lt a (base + 8 * page)) refl refl)
- where
-  three : (k : ℕ) → (k + 2) + 1 ≡ k + 3
-  three k = omega arith
-  two : (k : ℕ) → (k + 2) - 2 ≡ k
-  two k = omega arith
-  -- a page of the group has a number below 8, and its bit in SRD is the complement of the mask's
-  flipped : (base page mask a : ℕ) (it : IsPage page) → mask < 256 → nat_le base a ≡ true → nat_lt a (base + 8 * page) ≡ true → not (nat_eq ((255 - mask) / 2 ^ ((a - base) / page) % 2) 1) ≡ nat_eq (mask / 2 ^ ((a - base) / page) % 2) 1
-  flipped base page mask a it small after before =
-      let i : ℕ = (a - base) / page in
-      let within : i < 8 = div_below (a - base) page 8 (omega (arith, it.is_power, pow_pos it.exponent)) (omega (arith, leb-true base a after, ltb-true a (base + 8 * page) before)) in
-      let bit : (255 - mask) / 2 ^ i % 2 ≡ 1 - mask / 2 ^ i % 2 = bit_at_not w8 mask i small within in
-      rw bit (turned (mask / 2 ^ i % 2) (bit_at-lt mask i))
-   where
-    turned : (x : ℕ) → x < 2 → not (nat_eq (1 - x) 1) ≡ nat_eq x 1
-    turned x below = grind (arith, nat_tests)
-  settled : (x y : Bool) → nat_le base a ≡ x → nat_lt a (base + 8 * page) ≡ y → (true && (x && y) && not (true && nat_eq ((255 - mask) / 2 ^ ((a - base) / page) % 2) 1)) ≡ (x && y && nat_eq (mask / 2 ^ ((a - base) / page) % 2) 1)
-  settled true true xs ys = flipped base page mask a it small xs ys
-  settled true false xs ys = refl
-  settled false y xs ys = refl
+  where
+    three : (k : ℕ) → (k + 2) + 1 ≡ k + 3
+    three k = omega arith
+
+    two : (k : ℕ) → (k + 2) - 2 ≡ k
+    two k = omega arith
+
+    -- a page of the group has a number below 8, and its bit in SRD is the complement of the mask's
+    flipped : (base page mask a : ℕ) (it : IsPage page) → mask < 256 → nat_le base a ≡ true → nat_lt a (base + 8 * page) ≡ true → not (nat_eq ((255 - mask) / 2 ^ ((a - base) / page) % 2) 1) ≡ nat_eq (mask / 2 ^ ((a - base) / page) % 2) 1
+    flipped base page mask a it small after before =
+        let i : ℕ = (a - base) / page in
+        let within : i < 8 = div_below (a - base) page 8 (omega (arith, it.is_power, pow_pos it.exponent)) (omega (arith, leb-true base a after, ltb-true a (base + 8 * page) before)) in
+        let bit : (255 - mask) / 2 ^ i % 2 ≡ 1 - mask / 2 ^ i % 2 = bit_at_not w8 mask i small within in
+        rw bit (turned (mask / 2 ^ i % 2) (bit_at-lt mask i))
+      where
+        turned : (x : ℕ) → x < 2 → not (nat_eq (1 - x) 1) ≡ nat_eq x 1
+        turned x below = grind (arith, nat_tests)
+
+    settled : (x y : Bool) → nat_le base a ≡ x → nat_lt a (base + 8 * page) ≡ y → (true && (x && y) && not (true && nat_eq ((255 - mask) / 2 ^ ((a - base) / page) % 2) 1)) ≡ (x && y && nat_eq (mask / 2 ^ ((a - base) / page) % 2) 1)
+    settled true true xs ys = flipped base page mask a it small xs ys
+    settled true false xs ys = refl
+    settled false y xs ys = refl

@@ -1,7 +1,7 @@
 -- Powers of two that divide a number.
-use Rattle.std.proofs.Common.{◌≡◌, ℕ, zero, suc, ◌+◌, ◌-◌, ◌*◌, ◌/◌, ◌%◌, ◌^◌, ◌<◌, ◌≤◌, refl, sym, ◌∙◌, ap, subst, arith, inl, inr, ◌⊎◌}
+use Rattle.std.proofs.Common.{◌≡◌, ℕ, ◌+◌, ◌-◌, ◌*◌, ◌/◌, ◌%◌, ◌^◌, ◌<◌, ◌≤◌, sym, ◌∙◌, ap, subst, arith, inl, inr, ◌⊎◌}
 use Rattle.std.proofs.lemmas.Bool.{cases_lt}
-use Rattle.std.proofs.lemmas.Nat.{pow_pos, pow-add, mod-pow-add, div-add-mod', pow_below}
+use Rattle.std.proofs.lemmas.Nat.{pow_pos, pow-add, mod-pow-add, pow_below}
 use Rattle.std.proofs.Math.Nat.{add-mod_right, add-div_right}
 
 -- the next power is twice this one
@@ -21,11 +21,11 @@ divides_below j k p less whole =
 -- a lesser power has a lesser exponent
 pub smaller : (j k : ℕ) → 2 ^ j < 2 ^ k → j < k
 smaller j k less = elim (cases_lt j k) [
-    inl below ↦ below
+  | inl below ↦ below
   | inr above ↦ elim (cases_lt k j) [
-        inl more ↦ absurd (omega (arith, pow_below k j more))
-      | inr same ↦ let one : j ≡ k = omega arith in absurd (omega (arith, ap (λ m. 2 ^ m) one))
-    ]
+    | inl more ↦ absurd (omega (arith, pow_below k j more))
+    | inr same ↦ let one : j ≡ k = omega arith in absurd (omega (arith, ap (λ m. 2 ^ m) one))
+  ]
 ]
 
 -- an exponent of at least 5 makes at least 32
@@ -49,11 +49,11 @@ pub divides_double : (k p : ℕ) → p % 2 ^ k ≡ 0 → (p % 2 ^ (k + 1) ≡ 0 
 divides_double k p whole odd =
     let step : 1 + k ≡ k + 1 = omega arith in
     let before : p % 2 ^ (k + 1) ≡ (p / 2 ^ k % 2) * 2 ^ k + p % 2 ^ k =
-        subst (λ m. p % 2 ^ m ≡ (p / 2 ^ k % 2) * 2 ^ k + p % 2 ^ k) step (mod-pow-add p 1 k) in
+    subst (λ m. p % 2 ^ m ≡ (p / 2 ^ k % 2) * 2 ^ k + p % 2 ^ k) step (mod-pow-add p 1 k) in
     let after : (p + 2 ^ k) % 2 ^ (k + 1) ≡ ((p + 2 ^ k) / 2 ^ k % 2) * 2 ^ k + (p + 2 ^ k) % 2 ^ k =
-        subst (λ m. (p + 2 ^ k) % 2 ^ m ≡ ((p + 2 ^ k) / 2 ^ k % 2) * 2 ^ k + (p + 2 ^ k) % 2 ^ k) step (mod-pow-add (p + 2 ^ k) 1 k) in
+    subst (λ m. (p + 2 ^ k) % 2 ^ m ≡ ((p + 2 ^ k) / 2 ^ k % 2) * 2 ^ k + (p + 2 ^ k) % 2 ^ k) step (mod-pow-add (p + 2 ^ k) 1 k) in
     elim (even_or_odd (p / 2 ^ k)) [
-        inl even ↦ absurd (odd (before ∙ even_zero (p / 2 ^ k) (2 ^ k) (p % 2 ^ k) even whole))
+      | inl even ↦ absurd (odd (before ∙ even_zero (p / 2 ^ k) (2 ^ k) (p % 2 ^ k) even whole))
       | inr other ↦ after ∙ even_zero ((p + 2 ^ k) / 2 ^ k) (2 ^ k) ((p + 2 ^ k) % 2 ^ k)
-            (omega (arith, other, add-div_right p {k = 2 ^ k} (pow_pos k))) (divides_next k p whole)
+          (omega (arith, other, add-div_right p {k = 2 ^ k} (pow_pos k))) (divides_next k p whole)
     ]

@@ -69,6 +69,10 @@ abbrev pub with_done : Ticket → ℕ → List Call → List Call
 with_done ticket value calls =
     with_state (λ call. same_ticket ticket call.ticket && is_started call.state) (state.Done value) calls
 
+-- the call as collected, where it is the ticket's
+abbrev pub collected_call : Ticket → Call → Call
+collected_call ticket call = if same_ticket ticket call.ticket then record call { state = state.Collected } else call
+
 -- the calls after the ticket's result was collected
 abbrev pub with_collected : Ticket → List Call → List Call
-with_collected ticket calls = with_state (λ call. same_ticket ticket call.ticket) state.Collected calls
+with_collected ticket calls = map (collected_call ticket) calls

@@ -64,8 +64,7 @@ exponent_of n = 31 - leading_zeros w32 n
 abbrev pub pair_of : Range → ℕ → Pair
 pair_of range bits = block_pair bits (record { base = range.base; exponent = exponent_of range.len })
 
--- The region of eight pages from the base. Those without a bit in the mask are disabled in SRD;
--- the others are read and written, and never executed.
+-- the region of eight pages from the base, to be read and written; those without a bit in the mask are disabled in SRD
 abbrev pub group_pair : ℕ → ℕ → ℕ → Pair
 group_pair base page mask =
     record {

@@ -89,7 +89,7 @@ abbrev pub verdict_of : List Pair → Kind → Option ℕ → Verdict
 verdict_of pairs kind None = Denied
 verdict_of pairs kind (Some s) = if gives_at pairs kind s then Granted s else Denied
 
--- The verdict on an access: the matching pair with the greatest number decides by its kinds.
+-- the verdict on an access: the matching pair with the greatest number decides by its kinds
 abbrev pub decision : List Pair → ℕ → Kind → Verdict
 decision pairs a kind = verdict_of pairs kind (greatest (matches_at pairs a) (length pairs))
 

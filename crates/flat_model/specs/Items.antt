@@ -7,7 +7,7 @@ use Rattle.flat_model.specs.declared.boards.Board.{Board}
 use Rattle.flat_model.specs.declared.parts.BoxPart.{BoxPart}
 use Rattle.flat_model.specs.declared.parts.Item.{Item}
 
--- the right to read alone, and the sets that have it
+-- the right to read, and no other
 abbrev pub read_only : Rights
 read_only = record { bits = 1 }
 

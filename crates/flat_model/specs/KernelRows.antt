@@ -1,7 +1,8 @@
--- The kernel calls that change more than one thread, each a row of its own.
+-- The kernel calls that read or change what the threads share, each a row of its own.
 use Rattle.std.specs.Prelude.{ℕ, ◌+◌, ◌-◌, ◌/◌, ◌%◌, ◌^◌, Bool, true, false, ◌&&◌, nat_eq, unwrap_or, is_some, Option, Some, None, List, [], ◌∷◌, ◌++◌, take, if◌then◌else◌, slice_get, slice_set, bit_and, bit_or, bit_xor}
 use Rattle.addr_base.specs.declared.identity.BoxId.{BoxId}
 use Rattle.addr_base.specs.declared.identity.Ticket.{Ticket}
+use Rattle.flat_model.specs.declared.actors.Who.{Who}
 use Rattle.flat_model.specs.declared.boards.Board.{Board}
 use Rattle.flat_model.specs.declared.boards.HeapPart.{HeapPart}
 use Rattle.flat_model.specs.declared.events.Reply.TheVariants as reply
@@ -22,7 +23,7 @@ use Rattle.flat_model.specs.Calls.{done_value, with_collected, with_done}
 use Rattle.flat_model.specs.Cells.{cells_of}
 use Rattle.flat_model.specs.Interrupts.{has_line}
 use Rattle.flat_model.specs.Memory.{put_cells, put_word, word_at}
-use Rattle.flat_model.specs.Outcome.{Outcome, Who, done_row, refused_row, value_row}
+use Rattle.flat_model.specs.Outcome.{Outcome, done_row, refused_row, value_row}
 use Rattle.flat_model.specs.Pages.{blank_pages, frames_of, is_bad_count, least_free, may_write_words, table_cells, with_owner}
 use Rattle.flat_model.specs.Thread.{posted, posted_and_waiting, register, resumed, with_status}
 
@@ -147,7 +148,7 @@ rpc_post_row who m th after (Some gate) =
     then record { shared = record m { calls = m.calls ++ call_by who th gate ∷ [] }; thread = after; reply = reply.Posted (th.count + 1) }
     else refused_row m th 3
 
--- `rpc_take` as a turn: not the server, or in a call. Where a call could be taken it is no turn, and empty here
+-- `rpc_take` as a turn: not the server, or in a call; a server in no call has no turn here, and its row is empty
 abbrev pub rpc_take_row : Shared → ThreadState → Bool → Option Ticket → Outcome
 rpc_take_row m th false serving = refused_row m th 9
 rpc_take_row m th true (Some ticket) = refused_row m th 11

@@ -3,6 +3,7 @@ pub use Rattle.addr_base.specs.Range
 pub use Rattle.addr_base.specs.Rights
 pub mod Access
 pub mod AccessRows
+pub mod BoardRules
 pub mod Calls
 pub mod Cells
 pub mod Cover
@@ -27,8 +28,11 @@ pub mod Run
 pub mod Script
 pub mod Sound
 pub mod Step
+pub mod Stepping
+pub mod StepsLeft
 pub mod Text
 pub mod Thread
+pub mod Today
 pub mod Trace
 pub mod Turn
 pub mod UnitRun

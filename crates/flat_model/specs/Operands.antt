@@ -16,8 +16,8 @@ abbrev pub IsSmall : ℕ → Type 0
 IsSmall n = n < 65536
 
 -- the number is a count of looks, which a thread that waits has left
-abbrev pub IsLooks : ℕ → Type 0
-IsLooks n = (1 ≤ n) × (n < 65536)
+abbrev pub IsLookCount : ℕ → Type 0
+IsLookCount n = (1 ≤ n) × (n < 65536)
 
 -- each operand of the instruction is one that a program text can give it
 abbrev pub IsValidInstr : Instr → Type 0
@@ -47,7 +47,7 @@ IsValidInstr instr.IrqReturn = Unit {0}
 IsValidInstr (instr.GwRead d n) = IsRegister d × IsSmall n
 IsValidInstr (instr.GwWrite s n) = IsRegister s × IsSmall n
 IsValidInstr (instr.RpcCall d n) = IsRegister d × IsSmall n
-IsValidInstr (instr.RpcSync n m) = IsSmall n × IsLooks m
+IsValidInstr (instr.RpcSync n m) = IsSmall n × IsLookCount m
 IsValidInstr instr.RpcTake = Unit {0}
 IsValidInstr (instr.RpcReturn s) = IsRegister s
 IsValidInstr (instr.RpcResult d s) = IsRegister d × IsRegister s

@@ -1,8 +1,5 @@
 -- What a row of the step gives: what the threads share, the thread, and the reply.
-use Rattle.std.specs.Prelude.{ℕ, Option, Some, None}
-use Rattle.addr_base.specs.declared.identity.BoxId.{BoxId}
-use Rattle.addr_base.specs.declared.identity.ThreadId.{ThreadId}
-use Rattle.std.specs.Prelude.{Bool}
+use Rattle.std.specs.Prelude.{ℕ}
 use Rattle.flat_model.specs.declared.events.Flaw.{Flaw}
 use Rattle.flat_model.specs.declared.events.Reply.{Reply}
 use Rattle.flat_model.specs.declared.events.Reply.TheVariants as reply
@@ -15,12 +12,6 @@ pub record Outcome : Type 0 where
   pub shared : Shared
   pub thread : ThreadState
   pub reply : Reply
-
--- who acts: the box, the thread, and whether there is room for a call
-pub record Who : Type 0 where
-  pub home : BoxId
-  pub thread : ThreadId
-  pub room : Bool
 
 -- nothing is shared anew: the thread and its reply
 abbrev pub by_itself : Shared → ThreadState × Reply → Outcome

@@ -1,11 +1,10 @@
 -- Which regions a box has at a switch, and which may rotate in.
-use Rattle.std.specs.Prelude.{ℕ, ◌+◌, ◌-◌, ◌*◌, ◌/◌, ◌^◌, Bool, true, false, ◌&&◌, List, [], ◌∷◌, ◌++◌, length, replicate, slice_get, slice_set, Option, Some, None, if◌then◌else◌, nat_eq}
+use Rattle.std.specs.Prelude.{ℕ, ◌+◌, ◌-◌, ◌*◌, ◌/◌, ◌^◌, Bool, false, ◌&&◌, List, [], ◌∷◌, ◌++◌, length, replicate, slice_get, slice_set, Option, Some, None, if◌then◌else◌, nat_eq}
 use Rattle.std.proofs.Common.{zero, suc}
 use Rattle.std.specs.List.{flat_map, range_with_len}
 use Rattle.std.specs.Option.{option_map_or}
 use Rattle.addr_base.specs.declared.identity.BoxId.{BoxId}
 use Rattle.addr_base.specs.declared.pairs.Pair.{Pair}
-use Rattle.addr_base.specs.declared.ranges.Range.{Range}
 use Rattle.addr_base.specs.declared.rights.Kind.{Kind}
 use Rattle.addr_base.specs.declared.rights.Rights.{Rights}
 use Rattle.flat_model.specs.declared.boards.Board.{Board}
@@ -14,7 +13,7 @@ use Rattle.flat_model.specs.declared.parts.BoxPart.{BoxPart}
 use Rattle.flat_model.specs.declared.parts.Config.{Config}
 use Rattle.flat_model.specs.declared.parts.Item.{Item}
 use Rattle.flat_model.specs.Cover.{NO_ACCESS, attributes, cover_of, group_pair, pair_of}
-use Rattle.flat_model.specs.Decision.{decision, is_granted, matches, pair_gives}
+use Rattle.flat_model.specs.Decision.{matches, pair_gives}
 
 -- the rights to read and to execute, and no other
 abbrev pub READ_EXECUTE : Rights
@@ -105,11 +104,3 @@ cleared (suc n) pairs = slice_set (cleared n pairs) (n + 2) no_pair
 -- the regions with all of the circle disabled
 abbrev pub flushed_pairs : List Pair → List Pair
 flushed_pairs pairs = cleared (length pairs - 3) pairs
-
--- the pair that rotates in at an access: the first that serves it, where the regions deny it
-abbrev pub rotated_pair : List Pair → List Pair → ℕ → Kind → Option Pair
-rotated_pair plan pairs a kind = if is_granted (decision pairs a kind) then None else first_serving a kind plan
-
--- the regions once that pair stands in the circle's slot
-abbrev pub touched_pairs : List Pair → List Pair → ℕ → ℕ → Kind → List Pair
-touched_pairs plan pairs slot a kind = option_map_or (slice_set pairs slot) (rotated_pair plan pairs a kind) pairs

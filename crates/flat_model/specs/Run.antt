@@ -22,14 +22,14 @@ opening_state cfg = record {
       memory = opening_memory cfg.board;
       owners = replicate (option_map_or (λ heap. heap.count) cfg.board.heap 0) None;
       calls = [];
-      serving = map (λ _. None) cfg.boxes;
+      serving = replicate (length cfg.boxes) None;
       lines = record {
         latched = replicate LINES false;
         enabled = replicate LINES false;
-        saved = map (λ _. None) cfg.boxes;
+        saved = replicate (length cfg.boxes) None;
       };
     };
-    threads = map (λ _. opening_thread) cfg.threads;
+    threads = replicate (length cfg.threads) opening_thread;
   }
 
 -- the state after choices, from a state on

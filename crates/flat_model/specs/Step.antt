@@ -5,6 +5,7 @@ use Rattle.addr_base.specs.declared.identity.BoxId.{BoxId}
 use Rattle.addr_base.specs.declared.identity.ThreadId.{ThreadId}
 use Rattle.addr_base.specs.declared.identity.Ticket.{Ticket}
 use Rattle.flat_model.specs.declared.accesses.Access.{Access}
+use Rattle.flat_model.specs.declared.actors.Who.{Who}
 use Rattle.flat_model.specs.declared.events.Choice.{Choice}
 use Rattle.flat_model.specs.declared.events.Choice.TheVariants as choice
 use Rattle.flat_model.specs.declared.events.Reply.{Reply}
@@ -21,7 +22,7 @@ use Rattle.flat_model.specs.declared.states.Shared.{Shared}
 use Rattle.flat_model.specs.declared.states.ThreadState.{ThreadState}
 use Rattle.flat_model.specs.AccessRows.{access_of, aligned_access}
 use Rattle.flat_model.specs.Calls.{oldest_posted_by, with_started}
-use Rattle.flat_model.specs.Outcome.{Outcome, Who, by_itself, refused_row}
+use Rattle.flat_model.specs.Outcome.{Outcome, by_itself, refused_row}
 use Rattle.flat_model.specs.Thread.{begun, counted}
 use Rattle.flat_model.specs.Turn.{turn_row, within_budget}
 use Rattle.flat_model.specs.Want.{fits, next_instruction}

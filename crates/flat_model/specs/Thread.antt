@@ -112,7 +112,7 @@ abbrev pub posted_and_waiting : ThreadState → ℕ → ThreadState
 posted_and_waiting th looks =
     record (looking th (th.count + 1) looks) { mode = mode.Waiting; count = th.count + 1 }
 
--- the registers r0 to r5 and r7 of a server that starts a call
+-- the registers of a server after it started a call: all but r6 are new
 abbrev pub started_registers : List ℕ → Started → List ℕ
 started_registers regs started =
     slice_set (slice_set (slice_set (slice_set (slice_set (slice_set (slice_set regs

@@ -4,6 +4,7 @@ use Rattle.addr_base.specs.declared.identity.BoxId.{BoxId}
 use Rattle.addr_base.specs.declared.identity.ThreadId.{ThreadId}
 use Rattle.addr_base.specs.declared.identity.Ticket.{Ticket}
 use Rattle.flat_model.specs.declared.accesses.Access.{Access}
+use Rattle.flat_model.specs.declared.actors.Who.{Who}
 use Rattle.flat_model.specs.declared.events.Flaw.TheVariants as flaw
 use Rattle.flat_model.specs.declared.events.Reply.{Reply}
 use Rattle.flat_model.specs.declared.events.Reply.TheVariants as reply
@@ -22,7 +23,7 @@ use Rattle.flat_model.specs.Calls.{done_value, open_call, with_collected}
 use Rattle.flat_model.specs.Interrupts.{due_interrupt, saved_context}
 use Rattle.flat_model.specs.KernelRows.{gateway_for, gw_read_row, gw_write_row, irq_enable_row, irq_return_row, page_free_row, pages_alloc_row, register_for, rpc_post_row, rpc_result_row, rpc_return_row, rpc_take_row}
 use Rattle.flat_model.specs.Local.{local_row}
-use Rattle.flat_model.specs.Outcome.{Outcome, Who, by_itself, fault_row}
+use Rattle.flat_model.specs.Outcome.{Outcome, by_itself, fault_row}
 use Rattle.flat_model.specs.Pages.{frame_at}
 use Rattle.flat_model.specs.Thread.{bounded, context_of, counted, has_ended, interrupted, is_waiting, looking, posted, posted_and_waiting, register, timed_out, woken}
 

@@ -58,6 +58,16 @@ impl<T: Copy> Items<T> {
     {
         self.items[index] = value;
     }
+
+    /// Puts a value in the place of the element at `index`, if there is one.
+    #[tactic(auto, using(std::proofs::lemmas::List::set_past))]
+    pub fn put(&mut self, index: usize, value: T)
+        ensures { self.new ≡ slice_set self.old index value }
+    {
+        if index < self.len() {
+            self.set(index, value);
+        }
+    }
 }
 
 /// A text over a `String`, which contracts see as the list of its bytes.

@@ -19,16 +19,16 @@ pub append_known-nil : (old : Option (List ℕ)) → append_known old [] ≡ old
 append_known-nil None = refl
 append_known-nil (Some zs) = ap Some (append-nil zs)
 
--- what two reads took
+-- two reads together took so many bytes
 pub takes-more : {before mid : Option (List ℕ)} {n : ℕ} (xs ys : List ℕ) (now : Option (List ℕ)) → before ≡ prepend_known xs mid → mid ≡ prepend_known ys now → length xs + length ys ≡ n → Takes n before now
 takes-more xs ys now first second count =
     (xs ++ ys, length-append xs ys ∙ count, first ∙ ap (prepend_known xs) second ∙ prepend_known-append xs ys now)
 
--- what two reads took, within a bound
+-- two reads together took at most so many bytes
 pub takes_at_most-more : {before mid : Option (List ℕ)} {n : ℕ} (xs ys : List ℕ) (now : Option (List ℕ)) → before ≡ prepend_known xs mid → mid ≡ prepend_known ys now → length xs + length ys ≤ n → TakesAtMost n before now
 takes_at_most-more xs ys now first second bound =
     (xs ++ ys, omega (arith, length-append xs ys), first ∙ ap (prepend_known xs) second ∙ prepend_known-append xs ys now)
 
--- what is left after the next n bytes were taken
+-- the next n bytes, and then what is left after them
 pub taken_front : (bytes : List ℕ) (at n : ℕ) (front : List ℕ) → front ≡ take n (drop at bytes) → drop at bytes ≡ front ++ drop (at + n) bytes
 taken_front bytes at n front taken = rw (taken, ← drop-drop n at bytes, take-append-drop) refl

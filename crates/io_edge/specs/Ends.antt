@@ -6,7 +6,7 @@ use Rattle.io_edge.specs.declared.ends.Pulled.{Pulled}
 use Rattle.io_edge.specs.declared.ends.Pulled.TheVariants as pulled
 use Rattle.io_edge.specs.declared.ends.Pushed.{Pushed}
 use Rattle.io_edge.specs.declared.ends.Pushed.TheVariants as pushed
-use Rattle.io_edge.specs.Counts.{Rose}
+use Rattle.io_edge.specs.Counts.{Rose, next_count}
 
 -- how many bytes a read gave
 abbrev pub pulled_count : Pulled → ℕ
@@ -29,3 +29,14 @@ IsPull room left before now pulled.Failed = Rose before now
 abbrev pub IsPush : ℕ → ℕ → ℕ → Pushed → Type 0
 IsPush offered before now (pushed.Bytes n) = (1 ≤ n) × (n ≤ offered)
 IsPush offered before now pushed.Failed = Rose before now
+
+-- the count of faults after a read with this answer
+abbrev pub faults_after_pull : ℕ → Pulled → ℕ
+faults_after_pull before (pulled.Bytes n) = before
+faults_after_pull before pulled.End = before
+faults_after_pull before pulled.Failed = next_count before
+
+-- the count of faults after a write with this answer
+abbrev pub faults_after_push : ℕ → Pushed → ℕ
+faults_after_push before (pushed.Bytes n) = before
+faults_after_push before pushed.Failed = next_count before

@@ -9,6 +9,7 @@ pub record Wrote (old now : Option (List ℕ)) (text rest : List ℕ) : Type 0 w
   pub whole : shown ++ rest ≡ text
   pub written : now ≡ append_known old shown
 
--- some front of the text was written
-abbrev pub WrotePart : Option (List ℕ) → Option (List ℕ) → List ℕ → Type 0
-WrotePart old now text = (rest : List ℕ) × Wrote old now text rest
+-- Some front of the text was written.
+pub record WrotePart (old now : Option (List ℕ)) (text : List ℕ) : Type 0 where
+  pub rest : List ℕ
+  pub so_far : Wrote old now text rest

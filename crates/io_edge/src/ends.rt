@@ -36,8 +36,12 @@ pub trait Source {
     fn read(&mut self, buf: &mut [u8]) -> Pulled
         requires { 0 < length buf.old }
 
-        ensures pull { IsPull (length buf.old) (left self.old) (faults self.old) (faults self.new) result }
-        ensures bytes { left self.old ≡ prepend_known (take (pulled_count result) buf.new) (left self.new) }
+        // It says what it gave, and those bytes are the next of what was left.
+        ensures pull { IsPull (length buf.old) (left self.old) (faults self.old) (faults self.new)
+            result }
+        ensures bytes { left self.old
+            ≡ prepend_known (take (pulled_count result) buf.new) (left self.new) }
+
         ensures later { faults self.old ≤ faults self.new };
 }
 
@@ -53,7 +57,10 @@ pub trait Sink {
     fn write(&mut self, piece: &[u8]) -> Pushed
         requires { 0 < length piece.now }
 
+        // It says what it took, and those bytes come after what was written.
         ensures push { IsPush (length piece.now) (faults self.old) (faults self.new) result }
-        ensures bytes { written self.new ≡ append_known (written self.old) (take (pushed_count result) piece.now) }
+        ensures bytes { written self.new
+            ≡ append_known (written self.old) (take (pushed_count result) piece.now) }
+
         ensures later { faults self.old ≤ faults self.new };
 }

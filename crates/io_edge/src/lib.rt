@@ -5,6 +5,8 @@ mod ends;
 mod sinks;
 mod sources;
 mod streams;
+#[cfg(test)]
+mod tests;
 mod whole;
 
 pub use ends::{Pulled, Pushed, Sink, Source};

@@ -23,25 +23,30 @@ impl Model for MemSink {
     ghost Value = { SinkView };
 
     ghost view = { λ s. record {
-        bytes = s.bytes.items;
-        room = vec_capacity s.bytes - vec_len s.bytes;
-        piece = s.piece;
-        fail_at = s.fail_at.items;
-        calls = s.calls;
-        faults = s.faults
+      bytes = s.bytes.items;
+      room = vec_capacity s.bytes - vec_len s.bytes;
+      piece = s.piece;
+      fail_at = s.fail_at.items;
+      calls = s.calls;
+      faults = s.faults;
     } };
 
     ghost invariant = { λ s. 1 ≤ s.piece };
 }
 
 impl MemSink {
-    /// A sink that fills the vector up to its capacity, takes at most `piece` bytes in one call
-    /// and fails at the calls whose numbers, from 1, stand in `fail_at`. Failed calls are counted too.
+    /// A sink that fills the vector up to its capacity, takes at most `piece` bytes in one call and
+    /// fails at the calls whose numbers, from 1, stand in `fail_at`. Failed calls are counted too.
     pub fn new(bytes: Vec<u8>, piece: usize, fail_at: Vec<u64>) -> MemSink
         requires { 1 ≤ piece }
         ensures { result ≡ record {
-            bytes = bytes.items; room = vec_capacity bytes - vec_len bytes;
-            piece = piece; fail_at = fail_at.items; calls = 0; faults = 0 } }
+          bytes = bytes.items;
+          room = vec_capacity bytes - vec_len bytes;
+          piece = piece;
+          fail_at = fail_at.items;
+          calls = 0;
+          faults = 0;
+        } }
     {
         MemSink {
             bytes,
@@ -87,7 +92,7 @@ impl Sink for MemSink {
             ≡ append_known (Some self.old.bytes) (take (pushed_count result) piece.now) }
         ensures later { self.old.faults ≤ self.new.faults }
 
-        // It fails at the calls that it was told and where it is full, and else takes as much as it may.
+        // It fails at the calls that it was told and where it is full, else takes what it may.
         ensures answer { result ≡ push_of self.old (length piece.now) }
         ensures after { self.new ≡ sink_after self.old piece.now }
     {

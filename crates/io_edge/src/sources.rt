@@ -24,11 +24,11 @@ impl Model for MemSource {
     ghost Value = { SourceView };
 
     ghost view = { λ s. record {
-        left = drop s.at s.bytes.items;
-        piece = s.piece;
-        fail_at = s.fail_at.items;
-        calls = s.calls;
-        faults = s.faults
+      left = drop s.at s.bytes.items;
+      piece = s.piece;
+      fail_at = s.fail_at.items;
+      calls = s.calls;
+      faults = s.faults;
     } };
 
     ghost invariant = { λ s. (s.at ≤ length s.bytes.items) × (1 ≤ s.piece) };
@@ -40,7 +40,12 @@ impl MemSource {
     pub fn new(bytes: Vec<u8>, piece: usize, fail_at: Vec<u64>) -> MemSource
         requires { 1 ≤ piece }
         ensures { result ≡ record {
-            left = bytes.items; piece = piece; fail_at = fail_at.items; calls = 0; faults = 0 } }
+          left = bytes.items;
+          piece = piece;
+          fail_at = fail_at.items;
+          calls = 0;
+          faults = 0;
+        } }
     {
         MemSource {
             bytes,
@@ -82,7 +87,8 @@ impl Source for MemSource {
     fn read(&mut self, buf: &mut [u8]) -> Pulled
         requires { 0 < length buf.old }
 
-        ensures pull { IsPull (length buf.old) (Some self.old.left) self.old.faults self.new.faults result }
+        ensures pull { IsPull (length buf.old) (Some self.old.left) self.old.faults
+            self.new.faults result }
         ensures bytes { Some self.old.left
             ≡ prepend_known (take (pulled_count result) buf.new) (Some self.new.left) }
         ensures later { self.old.faults ≤ self.new.faults }
@@ -147,7 +153,8 @@ impl Source for SureSource {
         requires { 0 < length buf.old }
 
         ensures pull { IsPull (length buf.old) (Some self.old) 0 0 result }
-        ensures bytes { Some self.old ≡ prepend_known (take (pulled_count result) buf.new) (Some self.new) }
+        ensures bytes { Some self.old
+            ≡ prepend_known (take (pulled_count result) buf.new) (Some self.new) }
 
         // It fills the buffer, or gives all that is left.
         ensures answer { result ≡ bytes_or_end (min (length buf.old) (length self.old)) }

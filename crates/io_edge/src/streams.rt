@@ -1,8 +1,9 @@
-ghost use Rattle.std.specs.Prelude.{◌≡◌, ℕ, None};
-ghost use Rattle.std.specs.Io.{WritesAtMost};
+ghost use Rattle.std.specs.Prelude.{◌≡◌, ℕ, ◌<◌, ◌≤◌, None, length, take};
+ghost use Rattle.std.specs.Io.KnownBytes.{Appends, Consumes};
+ghost use Rattle.io_edge.specs.Ends.{IsPull, IsPush, faults_after_pull, faults_after_push, pulled_count, pushed_count};
 
 use crate::ends::{Pulled, Pushed, Sink, Source};
-use std::io::{Read, Result, Write};
+use std::io::{Read, Write};
 use std::marker::Model;
 
 /// Standard input as a source. It tells nothing of the bytes.
@@ -13,17 +14,17 @@ pub struct StdinSource<R> {
 }
 
 impl<R> Model for StdinSource<R> {
-    ghost use Rattle.std.specs.Prelude.{ℕ};
+    ghost use Rattle.io_edge.specs.Streams.{StreamView};
 
-    ghost Value = { ℕ };
+    ghost Value = { StreamView R };
 
-    ghost view = { λ source. source.faults };
+    ghost view = { λ source. record { stream = source.stream; faults = source.faults } };
 }
 
 impl<R> StdinSource<R> {
     /// A source over a stream, with no fault so far.
     pub fn new(stream: R) -> StdinSource<R>
-        ensures { result ≡ 0 }
+        ensures { result ≡ record { stream = stream; faults = 0 } }
     {
         StdinSource { stream, faults: 0 }
     }
@@ -32,9 +33,22 @@ impl<R> StdinSource<R> {
 impl<R: Read> Source for StdinSource<R> {
     ghost left = { λ _. None };
 
-    ghost faults = { λ source. source };
+    ghost faults = { λ source. source.faults };
 
-    fn read(&mut self, buf: &mut [u8]) -> Pulled {
+    fn read(&mut self, buf: &mut [u8]) -> Pulled
+        requires { 0 < length buf.old }
+
+        // It passes on what the stream gives, where the stream tells that.
+        ensures pull { IsPull (length buf.old) (R.remaining self.old.stream) self.old.faults
+            self.new.faults result }
+        ensures given { Consumes (R.remaining self.old.stream) (R.remaining self.new.stream)
+            (take (pulled_count result) buf.new) }
+
+        ensures later { self.old.faults ≤ self.new.faults }
+
+        // The count rises by one where it failed, and nowhere else.
+        ensures counted { self.new.faults ≡ faults_after_pull self.old.faults result }
+    {
         match self.stream.read(buf) {
             Ok(0) => Pulled::End,
             Ok(count) => Pulled::Bytes(count),
@@ -46,7 +60,7 @@ impl<R: Read> Source for StdinSource<R> {
     }
 }
 
-/// Standard output as a sink. It tells nothing of the bytes.
+/// Standard output as a sink, over a stream that holds no bytes back. It tells nothing of the bytes.
 #[derive(Drop)]
 pub struct StdoutSink<W> {
     stream: W,
@@ -54,17 +68,17 @@ pub struct StdoutSink<W> {
 }
 
 impl<W> Model for StdoutSink<W> {
-    ghost use Rattle.std.specs.Prelude.{ℕ};
+    ghost use Rattle.io_edge.specs.Streams.{StreamView};
 
-    ghost Value = { ℕ };
+    ghost Value = { StreamView W };
 
-    ghost view = { λ sink. sink.faults };
+    ghost view = { λ sink. record { stream = sink.stream; faults = sink.faults } };
 }
 
 impl<W> StdoutSink<W> {
     /// A sink over a stream, with no fault so far.
     pub fn new(stream: W) -> StdoutSink<W>
-        ensures { result ≡ 0 }
+        ensures { result ≡ record { stream = stream; faults = 0 } }
     {
         StdoutSink { stream, faults: 0 }
     }
@@ -73,25 +87,28 @@ impl<W> StdoutSink<W> {
 impl<W: Write> Sink for StdoutSink<W> {
     ghost written = { λ _. None };
 
-    ghost faults = { λ sink. sink };
+    ghost faults = { λ sink. sink.faults };
 
-    fn write(&mut self, piece: &[u8]) -> Pushed {
-        match write_through(&mut self.stream, piece) {
+    fn write(&mut self, piece: &[u8]) -> Pushed
+        requires { 0 < length piece.now }
+
+        // The stream took what it says, where the stream tells that.
+        ensures push { IsPush (length piece.now) self.old.faults self.new.faults result }
+        ensures taken { Appends (W.contents self.old.stream) (W.contents self.new.stream)
+            (take (pushed_count result) piece.now) }
+
+        ensures later { self.old.faults ≤ self.new.faults }
+
+        // The count rises by one where it failed, and nowhere else.
+        ensures counted { self.new.faults ≡ faults_after_push self.old.faults result }
+    {
+        match self.stream.write(piece) {
             Ok(count) if count > 0 => Pushed::Bytes(count),
-            // A stream that takes nothing would hold up its caller for ever.
+            // A stream that takes nothing would keep its caller going for ever.
             _ => {
                 self.faults = self.faults.saturating_add(1);
                 Pushed::Failed
             }
         }
     }
-}
-
-// Writes and flushes, so that a stream with a buffer hands the bytes on.
-fn write_through<W: Write>(stream: &mut W, piece: &[u8]) -> Result<usize>
-    ensures { WritesAtMost result piece.now }
-{
-    let count = stream.write(piece)?;
-    stream.flush()?;
-    Ok(count)
 }

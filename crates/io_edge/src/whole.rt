@@ -34,14 +34,17 @@ const PIECE: usize = 4096;
 pub fn read_all<S: Source>(alloc: Global, src: &mut S, limit: usize) -> Result<Vec<u8>, ReadErr>
     requires { limit < 2 ^ 32 }
 
-    // The bytes are all that was left.
-    ensures ok { IfOk result (λ bytes. S.left src.old ≡ prepend_known bytes.items (S.left src.new)) }
+    // The bytes are all that was left, up to the end.
+    ensures ok { IfOk result (λ bytes.
+        S.left src.old ≡ prepend_known bytes.items (S.left src.new)) }
     ensures end { OnOk result (IsAtEnd (S.left src.new)) }
     ensures within { IfOk result (λ bytes. length bytes.items ≤ limit) }
 
-    // Too long is the answer exactly where more than `limit` bytes came.
-    ensures too_long { IsErrOf result ReadErr.TooLong → Takes (limit + 1) (S.left src.old) (S.left src.new) }
-    ensures others { ¬ IsErrOf result ReadErr.TooLong → TakesAtMost limit (S.left src.old) (S.left src.new) }
+    // Too long is the answer exactly where more than `limit` bytes came: `limit + 1` were taken.
+    ensures too_long { IsErrOf result ReadErr.TooLong
+        → Takes (limit + 1) (S.left src.old) (S.left src.new) }
+    ensures others { ¬ IsErrOf result ReadErr.TooLong
+        → TakesAtMost limit (S.left src.old) (S.left src.new) }
 
     ensures fault_only { IsErrOf result ReadErr.Fault → Rose (S.faults src.old) (S.faults src.new) }
     ensures later { S.faults src.old ≤ S.faults src.new }

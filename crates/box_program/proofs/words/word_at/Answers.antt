@@ -9,6 +9,6 @@ unfolding words
 returns c =
     nth_from_yields_List c.nth.result c.nth.new.self c.args.place c.nth.ensures.ran
     (YieldsList-from_filter _ has_bytes
-      (YieldsList-at c.filter.ensures.source
-        (YieldsList-from_slice_split _ is_blank (code_part c.args.line.now) (search rules) c.split.ensures.done c.split.ensures.closure (λ x b q k. search (rules, tests))))
-      c.filter.ensures.closure (λ x b q k. search (rules, tests)))
+    (YieldsList-at c.filter.ensures.source
+    (YieldsList-from_slice_split _ is_blank (code_part c.args.line.now) (search rules) c.split.ensures.done c.split.ensures.closure (λ x b q k. search (rules, tests))))
+    c.filter.ensures.closure (λ x b q k. search (rules, tests)))

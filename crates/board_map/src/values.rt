@@ -1,0 +1,161 @@
+ghost use Rattle.std.specs.Prelude.{◌≡◌, ◌≤◌, Option, option_and_then, option_copied, option_map};
+ghost use Rattle.flat_model.specs.First.{number};
+ghost use Rattle.flat_model.specs.declared.refusals.Key.TheVariants as key;
+ghost use Rattle.toml.specs.View.{items_view, table_view, view};
+ghost use Rattle.toml.specs.Data.{as_array, as_bool, as_str};
+ghost use Rattle.board_map.specs.Values.{all_fit, all_words, are_all, are_two_words, fits, fits_each, in_array, is_between, is_choice, is_place, may_own};
+ghost use Rattle.board_map.specs.Tree.{count, items_at, natural_of, value_at};
+
+use crate::rows::{Choice, Each, Form, Limit, Rule};
+use crate::totals::Totals;
+use crate::tree::{array, array_at, count, flag_at, integer_at, natural, value_at};
+use crate::words::is_word;
+use flat_model::Key;
+use toml::{Table, Value};
+
+// Whether the value is an integer from `low` to `high`.
+fn is_between(value: &Value, low: u32, high: u32) -> bool
+    ensures { result ≡ is_between low high (view value.now) }
+{
+    match natural(value) {
+        Some(n) => low as u64 <= n && n <= high as u64,
+        None => false,
+    }
+}
+
+// Whether each element is a word.
+fn are_words(items: &[Value]) -> bool
+    ensures { result ≡ all_words (items_view items.now) }
+{
+    for item in items {
+        if !is_between(item, 0, 4294967295) {
+            return false;
+        }
+    }
+    true
+}
+
+// Whether there are two elements, both words.
+#[tactic(auto, using(crate::proofs::Trees::count_of_items))]
+fn are_two_words(items: &[Value]) -> bool
+    ensures { result ≡ are_two_words (items_view items.now) }
+{
+    items.len() == 2 && are_words(items)
+}
+
+// Whether the value is an array of two words.
+fn is_pair(value: &Value) -> bool
+    ensures { result ≡ in_array are_two_words (as_array (view value.now)) }
+{
+    match array(value) {
+        Some(items) => are_two_words(items),
+        None => false,
+    }
+}
+
+// Whether an element is what each has to be.
+fn fits_each(each: Each, value: &Value) -> bool
+    ensures { result ≡ fits_each each (view value.now) }
+{
+    match each {
+        Each::Pair => is_pair(value),
+        Each::Table => value.is_table(),
+        Each::Text => value.is_str(),
+        Each::Line => is_between(value, 0, 63),
+    }
+}
+
+// Whether each element is what it has to be.
+fn all_fit(each: Each, items: &[Value]) -> bool
+    ensures { result ≡ all_fit each (items_view items.now) }
+{
+    for item in items {
+        if !fits_each(each, item) {
+            return false;
+        }
+    }
+    true
+}
+
+// Whether the elements are what they have to be, with one at least where `some` asks for it.
+#[tactic(auto, using(crate::proofs::Trees::count_of_items))]
+fn are_all(each: Each, some: bool, items: &[Value]) -> bool
+    ensures { result ≡ are_all each some (items_view items.now) }
+{
+    if some && items.len() == 0 {
+        return false;
+    }
+    all_fit(each, items)
+}
+
+// Whether the value is an array of such elements.
+fn is_array(each: Each, some: bool, value: &Value) -> bool
+    ensures { result ≡ in_array (are_all each some) (as_array (view value.now)) }
+{
+    match array(value) {
+        Some(items) => are_all(each, some, items),
+        None => false,
+    }
+}
+
+// Whether the value is one of the words.
+fn is_choice(choice: Choice, value: &Value) -> bool
+    ensures { result ≡ is_choice choice (as_str (view value.now)) }
+{
+    match value.as_str() {
+        Some(text) => is_word(choice, text),
+        None => false,
+    }
+}
+
+// Whether the value is a boolean, and true only where the secret may still be taken.
+fn may_own(secret_free: bool, value: &Value) -> bool
+    ensures { result ≡ may_own secret_free (as_bool (view value.now)) }
+{
+    match value.as_bool() {
+        Some(wanted) => !wanted || secret_free,
+        None => false,
+    }
+}
+
+// The elements of the array at a key, where the value there is an array.
+fn array_of<'a>(table: &'a Table, key: Key) -> Option<&'a [Value]>
+    ensures { option_map (λ s. items_view s.now) result ≡ option_and_then as_array (value_at key (table_view table.now)) }
+{
+    match value_at(table, key) {
+        Some(value) => array(value),
+        None => None,
+    }
+}
+
+// Whether the value is the place of a thread, where the threads are an array.
+#[tactic(auto, using(crate::proofs::Trees::count_of_items))]
+fn is_place(table: &Table, value: &Value) -> bool
+    ensures { result ≡ is_place (option_and_then as_array (value_at key.Thread (table_view table.now))) (natural_of (view value.now)) }
+{
+    match natural(value) {
+        Some(n) => match array_of(table, Key::Thread) {
+            Some(items) => n < items.len() as u64,
+            None => true,
+        },
+        None => false,
+    }
+}
+
+/// Whether a value meets the rule of its key, in a table behind others.
+#[tactic(auto, unfolding(crate::specs::Values::fits))]
+pub fn fits(rule: Rule, totals: Totals, table: &Table, value: &Value) -> bool
+    ensures { result ≡ fits rule totals (table_view table.now) (view value.now) }
+{
+    match rule {
+        Rule::Integer(low, high) => is_between(value, low, high),
+        Rule::Text => value.is_str(),
+        Rule::Flag => value.is_bool(),
+        Rule::Word(choice) => is_choice(choice, value),
+        Rule::Pair => is_pair(value),
+        Rule::Table => value.is_table(),
+        Rule::Array(each, some) => is_array(each, some, value),
+        Rule::Owner => may_own(totals.secret_free, value),
+        Rule::Server => is_place(table, value),
+    }
+}

@@ -1,0 +1,7 @@
+-- Lists of one value.
+use Rattle.std.proofs.Common.{◌≡◌, ℕ, zero, suc, ◌+◌, List, [], ◌∷◌, ◌++◌, replicate, refl, ap, sym, ◌∙◌}
+use Rattle.std.proofs.lemmas.List.{replicate-append-replicate}
+
+-- one copy more at the end
+pub replicate_more : {A : Type 0} (n : ℕ) (x : A) → replicate n x ++ x ∷ [] ≡ replicate (n + 1) x
+replicate_more n x = replicate-append-replicate n 1 x

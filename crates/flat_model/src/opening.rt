@@ -1,0 +1,112 @@
+ghost use Rattle.std.specs.Prelude.{◌≡◌, ℕ, ◌+◌, ◌^◌, ◌<◌, ◌≤◌, None, false, IfOk, map, replicate, length};
+ghost use Rattle.std.specs.Option.{option_map_or};
+ghost use Rattle.flat_model.specs.Memory as memory_words;
+ghost use Rattle.flat_model.specs.Run as spec;
+ghost use Rattle.flat_model.specs.Thread as thread_words;
+
+use crate::banks::put_word;
+use crate::boards::{Board, HeapPart};
+use crate::events::Mode;
+use crate::lists::Items;
+use crate::parts::Config;
+use crate::states::{Flat, Lines, Memory, Shared, ThreadState};
+use addr_base::OutOfMemory;
+use std::alloc::Global;
+
+// How many interrupt lines there are.
+const LINES: usize = 64;
+
+// A list of one value.
+#[tactic(auto, using(crate::proofs::Copies::replicate_more))]
+fn filled<T: Copy>(alloc: Global, value: T, n: usize) -> Result<Items<T>, OutOfMemory>
+    ensures { IfOk result (λ items. items ≡ replicate n value) }
+{
+    let mut items = Vec::with_capacity(alloc, n)?;
+    for _ in 0..n {
+        items.push(value)?;
+    }
+    Ok(Items::from_vec(items))
+}
+
+// Memory of zero bytes.
+fn blank_memory(alloc: Global, board: &Board) -> Result<Memory, OutOfMemory>
+    ensures { IfOk result (λ memory. memory ≡ memory_words.blank_memory board.now) }
+{
+    let flash = filled(alloc, 0, board.flash.len as usize)?;
+    let sram = filled(alloc, 0, board.sram.len as usize)?;
+    let peripherals = filled(alloc, 0, board.peripherals.len as usize)?;
+    Ok(Memory { flash, sram, peripherals })
+}
+
+// Writes the words that are there from the start.
+fn write_words(board: &Board, memory: &mut Memory)
+    ensures { memory.new ≡ memory_words.with_words board.now memory.old board.now.words }
+{
+    for word in board.words.as_slice() {
+        put_word(board, memory, word.at as u64, 4, word.value);
+    }
+}
+
+/// Memory as it is at the start.
+pub(crate) fn opening_memory(alloc: Global, board: &Board) -> Result<Memory, OutOfMemory>
+    ensures { IfOk result (λ memory. memory ≡ memory_words.opening_memory board.now) }
+{
+    let mut memory = blank_memory(alloc, board)?;
+    write_words(board, &mut memory);
+    Ok(memory)
+}
+
+// How many pages the heap has.
+fn page_count(heap: &Option<HeapPart>) -> u32
+    ensures { result ≡ option_map_or (λ heap. heap.count) heap.now 0 }
+{
+    match heap {
+        Some(heap) => heap.count,
+        None => 0,
+    }
+}
+
+// A thread as it is at the start.
+fn opening_thread() -> ThreadState
+    ensures { result ≡ thread_words.opening_thread }
+{
+    ThreadState {
+        pc: 0,
+        regs: [0; 8],
+        mode: Mode::Ready,
+        steps: 0,
+        count: 0,
+        awaited: None,
+    }
+}
+
+// The interrupt lines of so many boxes as they are at the start.
+fn opening_lines(alloc: Global, boxes: usize) -> Result<Lines, OutOfMemory>
+    ensures {
+        IfOk result (λ lines. lines ≡ record {
+            latched = replicate 64 false;
+            enabled = replicate 64 false;
+            saved = replicate boxes None;
+        })
+    }
+{
+    let latched = filled(alloc, false, LINES)?;
+    let enabled = filled(alloc, false, LINES)?;
+    let saved = filled(alloc, None, boxes)?;
+    Ok(Lines { latched, enabled, saved })
+}
+
+/// The flat machine as it is at the start.
+#[tactic(auto, unfolding(crate::specs::Run::opening_state))]
+pub fn opening_state(alloc: Global, cfg: &Config) -> Result<Flat, OutOfMemory>
+    ensures { IfOk result (λ flat. flat ≡ spec.opening_state cfg.now) }
+{
+    let memory = opening_memory(alloc, &cfg.board)?;
+    let owners = filled(alloc, None, page_count(&cfg.board.heap) as usize)?;
+    let calls = Items::from_vec(Vec::new(alloc));
+    let serving = filled(alloc, None, cfg.boxes.len())?;
+    let lines = opening_lines(alloc, cfg.boxes.len())?;
+    let threads = filled(alloc, opening_thread(), cfg.threads.len())?;
+    let shared = Shared { memory, owners, calls, serving, lines };
+    Ok(Flat { shared, threads })
+}

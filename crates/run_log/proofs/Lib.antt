@@ -1,0 +1,4 @@
+pub mod DecimalLemmas
+pub mod NameLemmas
+pub mod Printing
+pub mod SpacedLemmas

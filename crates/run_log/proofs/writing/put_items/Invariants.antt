@@ -1,0 +1,12 @@
+use Rattle.std.proofs.Common.{◌≤◌, ◌++◌, drop}
+use Rattle.std.specs.List.{flat_map}
+use Rattle.flat_model.specs.Text.{item_line}
+use Rattle.io_edge.specs.Written.{Wrote}
+use Rattle.run_log.proofs.writing.put_items.Given as goal
+
+abbrev pub invariant-items : goal.invariant-items
+invariant-items g l = record {
+  so_far : Wrote (g.K.Sink.written l.fn.sink) (g.K.Sink.written l.sink) (l.fn.page ++ flat_map (item_line l.fn.config) l.fn.items)
+      (l.page ++ flat_map (item_line l.fn.config) (drop l.item-index l.items));
+  later : g.K.Sink.faults l.fn.sink ≤ g.K.Sink.faults l.sink;
+}

@@ -1,0 +1,314 @@
+ghost use Rattle.std.specs.Prelude.{◌≡◌, ℕ, ◌+◌, ◌-◌, ◌*◌, ◌≤◌, List, [], ◌∷◌, ◌++◌, length, map, take};
+ghost use Rattle.std.specs.Fmt.{decimal};
+ghost use Rattle.addr_base.specs.declared.identity.ThreadId.{ThreadId};
+ghost use Rattle.flat_model.specs.Sound.{IsSound};
+ghost use Rattle.flat_model.specs.Step.{home_of};
+ghost use Rattle.flat_model.specs.Text.{box_name, end_line, entry_words, first_thread, flaw_text, hex_word, item_line, kind_text, line_of, mode_text, reply_words, thread_text, ticket_text, unit_words, verdict_words};
+ghost use Rattle.run_log.specs.Spaced.{spaced};
+
+use crate::page::Page;
+use flat_model::{
+    BoxId, Choice, Config, End, Entry, Flaw, Frames, Kind, Logged, Mode, Reply, Started, ThreadId,
+    Ticket, UnitLine, Verdict,
+};
+
+fn home_of(config: &Config, t: ThreadId) -> BoxId
+    ensures { result ≡ home_of config.now t.0 }
+{
+    match config.threads.as_slice().get(usize::from(t.0)) {
+        Some(thread) => thread.home,
+        None => BoxId(0),
+    }
+}
+
+fn box_name(config: &Config, b: BoxId) -> &[u8]
+    ensures { result.now ≡ box_name config.now b.0 }
+{
+    match config.boxes.as_slice().get(usize::from(b.0)) {
+        Some(part) => part.name.as_str().as_bytes(),
+        None => &[],
+    }
+}
+
+/// Prints the name of a box.
+#[tactic(auto, using(crate::proofs::NameLemmas::box_name_short))]
+pub fn push_name(config: &Config, b: BoxId, page: &mut Page)
+    requires sound { IsSound config.now }
+    requires room { length page.old + 16 ≤ 4096 }
+    ensures text { page.new ≡ page.old ++ box_name config.now b.0 }
+    ensures long { length page.new ≤ length page.old + 16 }
+{
+    page.push_bytes(box_name(config, b));
+}
+
+fn first_thread(config: &Config, b: BoxId) -> u32
+    ensures { result ≡ first_thread config.now b.0 }
+{
+    match config.boxes.as_slice().get(usize::from(b.0)) {
+        Some(part) => part.first,
+        None => 0,
+    }
+}
+
+/// Prints a thread: the name of its box, a dot, and its index in the box.
+#[tactic(auto, unfolding(flat_model::specs::Text::thread_text))]
+pub fn push_thread(config: &Config, t: ThreadId, page: &mut Page)
+    requires sound { IsSound config.now }
+    requires room { length page.old + 27 ≤ 4096 }
+    ensures text { page.new ≡ page.old ++ thread_text config.now t }
+    ensures long { length page.new ≤ length page.old + 27 }
+{
+    let home = home_of(config, t);
+    push_name(config, home, page);
+    page.push_byte(b'.');
+    page.push_decimal(u32::from(t.0).saturating_sub(first_thread(config, home)));
+}
+
+fn push_ticket(config: &Config, ticket: Ticket, page: &mut Page)
+    requires sound { IsSound config.now }
+    requires room { length page.old + 38 ≤ 4096 }
+    ensures text { page.new ≡ page.old ++ ticket_text config.now ticket }
+    ensures long { length page.new ≤ length page.old + 38 }
+{
+    push_thread(config, ticket.thread, page);
+    page.push_byte(b'#');
+    page.push_decimal(ticket.seq);
+}
+
+fn kind_text(kind: Kind) -> &'static str
+    ensures text { result.now ≡ kind_text kind }
+    ensures short { length result.now ≤ 5 }
+{
+    match kind {
+        Kind::Read => "read",
+        Kind::Write => "write",
+        Kind::Fetch => "fetch",
+    }
+}
+
+fn flaw_text(flaw: Flaw) -> &'static str
+    ensures text { result.now ≡ flaw_text flaw }
+    ensures short { length result.now ≤ 9 }
+{
+    match flaw {
+        Flaw::Daccviol => "daccviol",
+        Flaw::Iaccviol => "iaccviol",
+        Flaw::Unaligned => "unaligned",
+        Flaw::Place => "place",
+    }
+}
+
+fn mode_text(mode: Mode) -> &'static str
+    ensures text { result.now ≡ mode_text mode }
+    ensures short { length result.now ≤ 7 }
+{
+    match mode {
+        Mode::Ready => "ready",
+        Mode::Waiting => "waiting",
+        Mode::Halted => "halted",
+        Mode::Faulted => "faulted",
+        Mode::Spent => "spent",
+    }
+}
+
+fn push_verdict(verdict: Verdict, page: &mut Page)
+    requires { length page.old + 16 ≤ 4096 }
+    ensures text { page.new ≡ page.old ++ spaced (verdict_words verdict) }
+    ensures long { length page.new ≤ length page.old + 16 }
+{
+    match verdict {
+        Verdict::Granted(slot) => {
+            page.push_bytes(b" slot ");
+            page.push_decimal(u32::from(slot));
+        }
+        Verdict::Denied => page.push_bytes(b" denied"),
+    }
+}
+
+fn push_access(kind: Kind, size: u8, at: u32, verdict: Verdict, page: &mut Page)
+    requires { length page.old + 56 ≤ 4096 }
+    ensures text { page.new ≡ page.old ++ spaced (kind_text kind ∷ decimal size ∷ hex_word at ∷ verdict_words verdict) }
+    ensures long { length page.new ≤ length page.old + 56 }
+{
+    page.push_byte(b' ');
+    page.push_bytes(kind_text(kind).as_bytes());
+    page.push_byte(b' ');
+    page.push_decimal(u32::from(size));
+    page.push_byte(b' ');
+    page.push_hex(at);
+    push_verdict(verdict, page);
+}
+
+fn push_hex_words(numbers: &[u32], page: &mut Page)
+    requires { length page.old + 11 * length numbers.now ≤ 4096 }
+    ensures text { page.new ≡ page.old ++ spaced (map hex_word numbers.now) }
+    ensures long { length page.new ≡ length page.old + 11 * length numbers.now }
+{
+    for n in numbers {
+        page.push_byte(b' ');
+        page.push_hex(*n);
+    }
+}
+
+fn push_frames(numbers: &[u8], page: &mut Page)
+    requires { length page.old + 11 * length numbers.now ≤ 4096 }
+    ensures text { page.new ≡ page.old ++ spaced (map decimal numbers.now) }
+    ensures long { length page.new ≤ length page.old + 11 * length numbers.now }
+{
+    for n in numbers {
+        page.push_byte(b' ');
+        page.push_decimal(u32::from(*n));
+    }
+}
+
+fn push_given(frames: &Frames, page: &mut Page)
+    requires { length page.old + 183 ≤ 4096 }
+    ensures text { page.new ≡ page.old ++ spaced (reply_words (Reply.Given frames.now)) }
+    ensures long { length page.new ≤ length page.old + 183 }
+{
+    page.push_bytes(b" frames");
+    push_frames(&frames.list[..usize::from(frames.n.min(16))], page);
+}
+
+fn push_started(started: &Started, page: &mut Page)
+    requires { length page.old + 58 ≤ 4096 }
+    ensures text { page.new ≡ page.old ++ spaced (reply_words (Reply.Begun started.now)) }
+    ensures long { length page.new ≤ length page.old + 58 }
+{
+    page.push_bytes(b" ok ");
+    page.push_hex(started.function);
+    push_hex_words(&started.args, page);
+}
+
+fn push_reply(reply: &Reply, page: &mut Page)
+    requires { length page.old + 183 ≤ 4096 }
+    ensures text { page.new ≡ page.old ++ spaced (reply_words reply.now) }
+    ensures long { length page.new ≤ length page.old + 183 }
+{
+    match reply {
+        Reply::Ended => page.push_bytes(b" ended"),
+        Reply::Done => page.push_bytes(b" ok"),
+        Reply::Value(value) => {
+            page.push_bytes(b" ok ");
+            page.push_hex(*value);
+        }
+        Reply::Status(status) => {
+            page.push_bytes(b" status ");
+            page.push_decimal(u32::from(*status));
+        }
+        Reply::Posted(seq) => {
+            page.push_bytes(b" posted ");
+            page.push_decimal(*seq);
+        }
+        Reply::Waiting => page.push_bytes(b" waiting"),
+        Reply::Irq(line) => {
+            page.push_bytes(b" irq ");
+            page.push_decimal(u32::from(line.0));
+        }
+        Reply::Given(frames) => push_given(frames, page),
+        Reply::Fault { why, at } => {
+            page.push_bytes(b" fault ");
+            page.push_bytes(flaw_text(*why).as_bytes());
+            page.push_byte(b' ');
+            page.push_hex(*at);
+        }
+        Reply::Halted => page.push_bytes(b" halted"),
+        Reply::Begun(started) => push_started(started, page),
+    }
+}
+
+fn push_unit(config: &Config, line: &UnitLine, page: &mut Page)
+    requires sound { IsSound config.now }
+    requires room { length page.old + 68 ≤ 4096 }
+    ensures text { page.new ++ 10 ∷ [] ≡ page.old ++ line_of (unit_words config.now line.now) }
+    ensures long { length page.new ≤ length page.old + 68 }
+{
+    match line {
+        UnitLine::Switch(b) => {
+            page.push_bytes(b"unit switch ");
+            push_name(config, *b, page);
+        }
+        UnitLine::Rotate { slot, pair } => {
+            page.push_bytes(b"unit rotate ");
+            page.push_decimal(u32::from(*slot));
+            page.push_byte(b' ');
+            page.push_hex(pair.rbar);
+            page.push_byte(b' ');
+            page.push_hex(pair.rasr);
+        }
+        UnitLine::Flush => page.push_bytes(b"unit flush"),
+        UnitLine::Access {
+            kind,
+            size,
+            at,
+            verdict,
+        } => {
+            page.push_bytes(b"unit access");
+            push_access(*kind, *size, *at, *verdict, page);
+        }
+    }
+}
+
+fn push_entry(config: &Config, entry: &Entry, page: &mut Page)
+    requires sound { IsSound config.now }
+    requires room { length page.old + 255 ≤ 4096 }
+    ensures text { page.new ++ 10 ∷ [] ≡ page.old ++ line_of (entry_words config.now entry.now.choice entry.now.reply) }
+    ensures long { length page.new ≤ length page.old + 255 }
+{
+    match entry.choice {
+        Choice::Turn { t, room: _ } => {
+            page.push_bytes(b"turn ");
+            push_thread(config, t, page);
+            push_reply(&entry.reply, page);
+        }
+        Choice::Start { t, ticket } => {
+            page.push_bytes(b"start ");
+            push_thread(config, t, page);
+            page.push_byte(b' ');
+            push_ticket(config, ticket, page);
+            push_reply(&entry.reply, page);
+        }
+        Choice::Idle { t } => {
+            page.push_bytes(b"idle ");
+            push_thread(config, t, page);
+            push_reply(&entry.reply, page);
+        }
+        Choice::Ring { line, by } => {
+            page.push_bytes(b"ring ");
+            page.push_decimal(u32::from(line.0));
+            page.push_bytes(b" by ");
+            page.push_decimal(u32::from(by));
+        }
+    }
+}
+
+/// Prints the line of an item.
+#[tactic(auto, unfolding(flat_model::specs::Text::item_line))]
+pub fn push_item(config: &Config, item: &Logged, page: &mut Page)
+    requires sound { IsSound config.now }
+    requires room { length page.old + 256 ≤ 4096 }
+    ensures { page.new ≡ page.old ++ item_line config.now item.now }
+{
+    match item {
+        Logged::Unit(line) => push_unit(config, line, page),
+        Logged::Core(entry) => push_entry(config, entry, page),
+    }
+    page.push_byte(b'\n');
+}
+
+/// Prints the line of what a thread is at the end.
+#[tactic(auto, unfolding(flat_model::specs::Text::end_line))]
+pub fn push_end(config: &Config, t: ThreadId, end: &End, page: &mut Page)
+    requires sound { IsSound config.now }
+    requires room { length page.old + 256 ≤ 4096 }
+    ensures { page.new ≡ page.old ++ end_line config.now t.0 end.now }
+{
+    page.push_bytes(b"thread ");
+    push_thread(config, t, page);
+    page.push_byte(b' ');
+    page.push_bytes(mode_text(end.mode).as_bytes());
+    page.push_byte(b' ');
+    page.push_decimal(end.steps);
+    push_hex_words(&end.regs, page);
+    page.push_byte(b'\n');
+}
