@@ -18,8 +18,8 @@ use Rattle.flat_model.specs.declared.texts.GateTexts.{GateTexts}
 use Rattle.flat_model.specs.declared.texts.RegText.{RegText}
 use Rattle.flat_model.specs.declared.texts.RpcText.{RpcText}
 use Rattle.flat_model.specs.First.{IsCause, unless_refused}
-use Rattle.acl_resolver.specs.Naming.{bad_device, bad_script, script_words, word_of_text}
-use Rattle.acl_resolver.specs.Resolve.{IsDue, Parts, bad_program, box_parts, call_gate, configuration_of, configured, naming_refusal, parts_of, placing_refusal, refusal_of, register_gate, resolution_of, thread_parts}
+use Rattle.acl_resolver.specs.Naming.{script_words, word_of_text}
+use Rattle.acl_resolver.specs.Resolve.{IsDue, Parts, box_parts, call_gate, configuration_of, configured, naming_refusal, parts_of, placing_refusal, refusal_of, register_gate, resolution_of, running_refusal, thread_parts}
 
 -- want of memory is due at any time
 pub due_memory : (due : Option Refused) (e : ConfigErr) → e ≡ config_err.Memory → IsDue due e
@@ -60,16 +60,12 @@ pub record AreSame (boxes texts : List BoxText) (devices rings : List DevicePart
   pub same_devices : rings ≡ devices
   pub same_script : words ≡ script
 
--- what is refused of programs, devices and the script
-abbrev pub later_refusal : List BoxText → List DevicePart → List (List ℕ) → Option Refused
-later_refusal boxes devices script = option_or (bad_program boxes) (option_or (bad_device boxes devices) (bad_script boxes script))
-
 later_same : (boxes texts : List BoxText) (devices rings : List DevicePart) (script words : List (List ℕ)) → AreSame boxes texts devices rings script words
-    → later_refusal texts rings words ≡ later_refusal boxes devices script
+    → running_refusal texts rings words ≡ running_refusal boxes devices script
 later_same boxes texts devices rings script words same =
-    ap (λ t. later_refusal t rings words) same.same_boxes
-    ∙ ap (λ d. later_refusal boxes d words) same.same_devices
-    ∙ ap (λ w. later_refusal boxes devices w) same.same_script
+    ap (λ t. running_refusal t rings words) same.same_boxes
+    ∙ ap (λ d. running_refusal boxes d words) same.same_devices
+    ∙ ap (λ w. running_refusal boxes devices w) same.same_script
 
 -- a refusal of the places is the cause of an error
 pub placing_cause : (board : Board) (boxes texts : List BoxText) (gates : GateTexts) (devices : List DevicePart) (script : List (List ℕ)) (e : ConfigErr)
@@ -91,10 +87,10 @@ naming_cause board boxes texts gates devices script e same placing due =
 -- a refusal of programs, devices or the script is the cause of an error
 pub later_cause : (board : Board) (boxes texts : List BoxText) (gates : GateTexts) (devices rings : List DevicePart) (script words : List (List ℕ)) (e : ConfigErr)
     → AreSame boxes texts devices rings script words → placing_refusal board texts ≡ None → naming_refusal board texts gates ≡ None
-    → IsDue (later_refusal texts rings words) e → IsCause (resolution_of (parts_of board boxes gates devices script)) e
+    → IsDue (running_refusal texts rings words) e → IsCause (resolution_of (parts_of board boxes gates devices script)) e
 unfolding refusal_of
 later_cause board boxes texts gates devices rings script words e same placing naming due =
-    let later : later_refusal texts rings words ≡ later_refusal boxes devices script = later_same boxes texts devices rings script words same in
+    let later : running_refusal texts rings words ≡ running_refusal boxes devices script = later_same boxes texts devices rings script words same in
     due_cause (parts_of board boxes gates devices script) e
     (due_next (placing_refusal board boxes) _ e (subst (λ t. placing_refusal board t ≡ None) same.same_boxes placing)
     (due_next (naming_refusal board boxes gates) _ e (subst (λ t. naming_refusal board t gates ≡ None) same.same_boxes naming)
@@ -123,7 +119,7 @@ same_config cfg v b bs ts rs gs ds ws v_is b_is bs_is ts_is rs_is gs_is ds_is ws
 pub made_whole : (board : Board) (boxes texts : List BoxText) (gates : GateTexts) (devices rings : List DevicePart) (script words : List (List ℕ))
     (registers : List RegText) (gateways : List RpcText) (cfg : Config)
     → AreSame boxes texts devices rings script words → registers ≡ gates.registers → gateways ≡ gates.gateways
-    → placing_refusal board texts ≡ None → naming_refusal board texts gates ≡ None → later_refusal texts rings words ≡ None
+    → placing_refusal board texts ≡ None → naming_refusal board texts gates ≡ None → running_refusal texts rings words ≡ None
     → cfg.version ≡ 1 → cfg.board ≡ board → cfg.boxes ≡ box_parts board board.sram.base 0 texts → cfg.threads ≡ thread_parts 0 texts
     → cfg.registers ≡ map (register_gate texts) registers → cfg.gateways ≡ map (call_gate texts) gateways → cfg.devices ≡ devices
     → cfg.script ≡ filter_map (word_of_text (script_words texts)) words

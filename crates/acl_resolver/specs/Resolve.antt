@@ -14,6 +14,7 @@ use Rattle.flat_model.specs.declared.parts.DevicePart.{DevicePart}
 use Rattle.flat_model.specs.declared.parts.Item.{Item}
 use Rattle.flat_model.specs.declared.parts.RegGate.{RegGate}
 use Rattle.flat_model.specs.declared.parts.RpcGate.{RpcGate}
+use Rattle.flat_model.specs.declared.parts.ScriptWord.{ScriptWord}
 use Rattle.flat_model.specs.declared.parts.ThreadPart.{ThreadPart}
 use Rattle.flat_model.specs.declared.refusals.ConfigErr.{ConfigErr}
 use Rattle.flat_model.specs.declared.refusals.ConfigErr.TheVariants as config_err
@@ -76,14 +77,20 @@ naming_refusal board boxes gates =
     (option_or (bad_gateway board boxes gates)
     (no_server boxes gates.gateways))
 
+-- the first refusal of devices and the script
+abbrev pub words_refusal : List BoxText → List DevicePart → List (List ℕ) → Option Refused
+words_refusal boxes devices script = option_or (bad_device boxes devices) (bad_script boxes script)
+
+-- the first refusal of programs, devices and the script
+abbrev pub running_refusal : List BoxText → List DevicePart → List (List ℕ) → Option Refused
+running_refusal boxes devices script = option_or (bad_program boxes) (words_refusal boxes devices script)
+
 -- the first refusal of the parts, kind by kind
 unfoldable pub refusal_of : Parts → Option Refused
 refusal_of parts =
     option_or (placing_refusal parts.board parts.boxes)
     (option_or (naming_refusal parts.board parts.boxes parts.gates)
-    (option_or (bad_program parts.boxes)
-    (option_or (bad_device parts.boxes parts.devices)
-    (bad_script parts.boxes parts.script))))
+    (running_refusal parts.boxes parts.devices parts.script))
 
 -- a grant once it is rounded
 abbrev pub grant_item : GrantText → Item
@@ -145,6 +152,10 @@ call_gate boxes gate = record {
   callers = set_of_names 0 boxes gate.callers;
 }
 
+-- what the words of a script stand for
+abbrev pub words_of : List BoxText → List (List ℕ) → List ScriptWord
+words_of boxes script = filter_map (word_of_text (script_words boxes)) script
+
 -- the configuration of parts that are not refused
 unfoldable pub configuration_of : Parts → Config
 configuration_of parts = record {
@@ -155,7 +166,7 @@ configuration_of parts = record {
   registers = map (register_gate parts.boxes) parts.gates.registers;
   gateways = map (call_gate parts.boxes) parts.gates.gateways;
   devices = parts.devices;
-  script = filter_map (word_of_text (script_words parts.boxes)) parts.script;
+  script = words_of parts.boxes parts.script;
 }
 
 -- the first refusal where there is one, else the configuration

@@ -40,8 +40,10 @@ pub fn resolve(
 ) -> Result<Config, ConfigErr>
     requires { IsResolvable (parts_of board boxes.items gates devices.items (map string_bytes script.items)) }
 
-    ensures ok { IfOk result (λ cfg. resolution_of (parts_of board boxes.items gates devices.items (map string_bytes script.items)) ≡ Ok cfg) }
-    ensures err { IfErr result (IsCause (resolution_of (parts_of board boxes.items gates devices.items (map string_bytes script.items)))) }
+    ensures ok { let parts = parts_of board boxes.items gates devices.items (map string_bytes script.items) in
+        IfOk result (λ cfg. resolution_of parts ≡ Ok cfg) }
+    ensures err { let parts = parts_of board boxes.items gates devices.items (map string_bytes script.items) in
+        IfErr result (IsCause (resolution_of parts)) }
     ensures sound { IfOk result IsSound }
 {
     let texts = boxes.as_slice();

@@ -50,9 +50,12 @@ pub fn script_of(
     table: &[Spelled],
     script: &[String],
 ) -> Result<Vec<ScriptWord>, ConfigErr>
-    ensures none { OnOk result (first_numbered (bad_word_at table.now) 0 (map string_bytes script.now) ≡ None) }
-    ensures ok { IfOk result (λ v. v.items ≡ filter_map (word_of_text table.now) (map string_bytes script.now)) }
-    ensures err { IfErr result (IsDue (first_numbered (bad_word_at table.now) 0 (map string_bytes script.now))) }
+    ensures none { let texts = map string_bytes script.now in
+        OnOk result (first_numbered (bad_word_at table.now) 0 texts ≡ None) }
+    ensures ok { let texts = map string_bytes script.now in
+        IfOk result (λ v. v.items ≡ filter_map (word_of_text table.now) texts) }
+    ensures err { let texts = map string_bytes script.now in
+        IfErr result (IsDue (first_numbered (bad_word_at table.now) 0 texts)) }
 {
     let mut words = Vec::new(alloc);
     for (at, text) in script.iter().enumerate() {

@@ -1,12 +1,10 @@
 ghost use Rattle.std.specs.Prelude.{◌≡◌, ◌≤◌, None, IfOk, IfErr, OnOk, length, map, string_bytes};
-ghost use Rattle.std.specs.List.{filter_map};
 ghost use Rattle.std.specs.Option.{option_or};
 ghost use Rattle.addr_base.specs.Range.{ADDRESS_END};
 ghost use Rattle.flat_model.specs.Placing.{limit_of};
-ghost use Rattle.acl_resolver.specs.Naming.{bad_device, bad_script, script_words, word_of_text};
 ghost use Rattle.acl_resolver.specs.Refusals.{bad_grant, clash, common_behind, grant_outside, self_overlap};
 ghost use Rattle.acl_resolver.specs.Resolvable.{threads_of};
-ghost use Rattle.acl_resolver.specs.Resolve.{IsDue, bad_program, naming_refusal, placing_refusal, thread_parts};
+ghost use Rattle.acl_resolver.specs.Resolve.{IsDue, naming_refusal, placing_refusal, running_refusal, thread_parts, words_of, words_refusal};
 
 use crate::clashes::{clash, self_overlap};
 use crate::gates::{bad_gateway, no_server};
@@ -92,16 +90,16 @@ pub fn or_memory<T>(made: Result<T, AllocError>) -> Result<T, ConfigErr>
 }
 
 // What the words of the script stand for, once each device is found to ring lines that boxes own.
-fn words_of(
+fn script_words_of(
     alloc: Global,
     boxes: &[BoxText],
     devices: &[DevicePart],
     script: &[String],
 ) -> Result<Vec<ScriptWord>, ConfigErr>
     requires { threads_of boxes.now ≤ 16 }
-    ensures none { OnOk result (option_or (bad_device boxes.now devices.now) (bad_script boxes.now (map string_bytes script.now)) ≡ None) }
-    ensures ok { IfOk result (λ v. v.items ≡ filter_map (word_of_text (script_words boxes.now)) (map string_bytes script.now)) }
-    ensures err { IfErr result (IsDue (option_or (bad_device boxes.now devices.now) (bad_script boxes.now (map string_bytes script.now)))) }
+    ensures none { OnOk result (words_refusal boxes.now devices.now (map string_bytes script.now) ≡ None) }
+    ensures ok { IfOk result (λ v. v.items ≡ words_of boxes.now (map string_bytes script.now)) }
+    ensures err { IfErr result (IsDue (words_refusal boxes.now devices.now (map string_bytes script.now))) }
 {
     if let Some(refused) = bad_device(boxes, devices) {
         return Err(ConfigErr::Refused(refused));
@@ -126,20 +124,12 @@ pub fn scripted(
 ) -> Result<Programmed, ConfigErr>
     requires few_boxes { length boxes.now ≤ 8 }
     requires few_threads { threads_of boxes.now ≤ 16 }
-    ensures none { OnOk result
-        (option_or (bad_program boxes.now)
-        (option_or (bad_device boxes.now devices.now)
-        (bad_script boxes.now (map string_bytes script.now)))
-        ≡ None) }
+    ensures none { OnOk result (running_refusal boxes.now devices.now (map string_bytes script.now) ≡ None) }
     ensures threads { IfOk result (λ made. made.threads.items ≡ thread_parts 0 boxes.now) }
-    ensures script { IfOk result (λ made. made.script.items ≡ filter_map (word_of_text (script_words boxes.now)) (map string_bytes script.now)) }
-    ensures err { IfErr result
-        (IsDue
-        (option_or (bad_program boxes.now)
-        (option_or (bad_device boxes.now devices.now)
-        (bad_script boxes.now (map string_bytes script.now))))) }
+    ensures script { IfOk result (λ made. made.script.items ≡ words_of boxes.now (map string_bytes script.now)) }
+    ensures err { IfErr result (IsDue (running_refusal boxes.now devices.now (map string_bytes script.now))) }
 {
     let threads = thread_parts(alloc, boxes)?;
-    let script = words_of(alloc, boxes, devices, script)?;
+    let script = script_words_of(alloc, boxes, devices, script)?;
     Ok(Programmed { threads, script })
 }
