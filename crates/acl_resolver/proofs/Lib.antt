@@ -6,3 +6,10 @@ pub mod BoxLemmas
 pub mod WordLemmas
 pub mod Soundness
 pub mod Due
+pub mod ReadablePlaces
+pub mod ReadableParts
+pub mod ReadableTexts
+pub mod ReadableNames
+pub mod ReadableBoard
+pub mod ReadableBoxes
+pub mod Readable
