@@ -165,15 +165,15 @@ has_no_end cfg t l r sound small feedless none = record { none = λ end after at
 pub no_item_feedless : (cfg : Config) (bytes : List ℕ) → Feedless bytes → HasNoItem cfg bytes
 no_item_feedless cfg bytes feedless = record {
   none = λ i after at.
-    let whole : bytes ≡ item_body cfg i ++ 10 ∷ after = at.whole ∙ ap (λ xs. xs ++ after) (item_line_is cfg i) ∙ with_feed (item_body cfg i) after in
-    no_feedless (item_body cfg i) after (rw whole at feedless);
+      let whole : bytes ≡ item_body cfg i ++ 10 ∷ after = at.whole ∙ ap (λ xs. xs ++ after) (item_line_is cfg i) ∙ with_feed (item_body cfg i) after in
+      no_feedless (item_body cfg i) after (rw whole at feedless);
 }
 
 pub no_end_feedless : (cfg : Config) (t : ℕ) (bytes : List ℕ) → Feedless bytes → HasNoEnd cfg t bytes
 no_end_feedless cfg t bytes feedless = record {
   none = λ end after at.
-    let whole : bytes ≡ end_body cfg t end ++ 10 ∷ after = at.whole ∙ ap (λ xs. xs ++ after) (end_line_is cfg t end) ∙ with_feed (end_body cfg t end) after in
-    no_feedless (end_body cfg t end) after (rw whole at feedless);
+      let whole : bytes ≡ end_body cfg t end ++ 10 ∷ after = at.whole ∙ ap (λ xs. xs ++ after) (end_line_is cfg t end) ∙ with_feed (end_body cfg t end) after in
+      no_feedless (end_body cfg t end) after (rw whole at feedless);
 }
 
 -- what follows the first line makes no difference to whether it is an item's
@@ -191,7 +191,7 @@ other_rest_end cfg t l r s sound small feedless none =
 
 -- two items at the front of the same bytes are one
 pub item_unique : (cfg : Config) (i j : Logged) (r s : List ℕ) → IsSound cfg → is_named_item cfg i ≡ true → IsTypedItem i → is_named_item cfg j ≡ true → IsTypedItem j
-  → item_line cfg i ++ r ≡ item_line cfg j ++ s → (i ≡ j) × (r ≡ s)
+    → item_line cfg i ++ r ≡ item_line cfg j ++ s → (i ≡ j) × (r ≡ s)
 item_unique cfg i j r s sound named typed named' typed' e =
     let body = item_body cfg i in
     let front : body ++ 10 ∷ r ≡ item_line cfg j ++ s = sym (with_feed body r) ∙ ap (λ xs. xs ++ r) (sym (item_line_is cfg i)) ∙ e in
@@ -201,7 +201,7 @@ item_unique cfg i j r s sound named typed named' typed' e =
 
 -- two ends at the front of the same bytes are one
 pub end_unique : (cfg : Config) (t : ℕ) (i j : End) (r s : List ℕ) → IsSound cfg → t < 2 ^ 64 → IsTypedEnd i → IsTypedEnd j
-  → end_line cfg t i ++ r ≡ end_line cfg t j ++ s → (i ≡ j) × (r ≡ s)
+    → end_line cfg t i ++ r ≡ end_line cfg t j ++ s → (i ≡ j) × (r ≡ s)
 end_unique cfg t i j r s sound small typed typed' e =
     let body = end_body cfg t i in
     let front : body ++ 10 ∷ r ≡ end_line cfg t j ++ s = sym (with_feed body r) ∙ ap (λ xs. xs ++ r) (sym (end_line_is cfg t i)) ∙ e in
@@ -211,13 +211,13 @@ end_unique cfg t i j r s sound small typed typed' e =
 
 -- no item's line is a line of an end
 pub item_not_end : (cfg : Config) (i : Logged) (t : ℕ) (end : End) (r s : List ℕ) → IsSound cfg → is_named_item cfg i ≡ true → IsTypedItem i → t < 2 ^ 64 → IsTypedEnd end
-  → item_line cfg i ++ r ≡ end_line cfg t end ++ s → ⊥
+    → item_line cfg i ++ r ≡ end_line cfg t end ++ s → ⊥
 item_not_end cfg i t end r s sound named typed small typed' e =
     let front : item_body cfg i ++ 10 ∷ r ≡ end_body cfg t end ++ 10 ∷ s =
-      sym (with_feed (item_body cfg i) r) ∙ ap (λ xs. xs ++ r) (sym (item_line_is cfg i)) ∙ e ∙ ap (λ xs. xs ++ s) (end_line_is cfg t end) ∙ with_feed (end_body cfg t end) s in
+    sym (with_feed (item_body cfg i) r) ∙ ap (λ xs. xs ++ r) (sym (item_line_is cfg i)) ∙ e ∙ ap (λ xs. xs ++ s) (end_line_is cfg t end) ∙ with_feed (end_body cfg t end) s in
     let parts = line_split (item_body cfg i) (end_body cfg t end) r s (item_feedless cfg i sound named typed) (end_feedless cfg t end sound small typed') front in
     let words : item_words cfg i ≡ end_words cfg t end =
-      sym (item_words_back cfg i sound named typed) ∙ ap words_of parts.0 ∙ end_words_back cfg t end sound small typed' in
+    sym (item_words_back cfg i sound named typed) ∙ ap words_of parts.0 ∙ end_words_back cfg t end sound small typed' in
     let tested : false ≡ true = sym (item_has_first cfg i).other ∙ ap (λ ws. bytes_eq (word_at ws 0) (codes "thread")) words in
     absurd (cc)
 

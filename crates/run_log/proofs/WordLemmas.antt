@@ -35,7 +35,7 @@ words-append (v ∷ vs) ws p q = (p.0, words-append vs ws p.1 q)
 pub above_decimal : (n : ℕ) → n < 2 ^ 64 → AllAbove 47 (decimal n)
 above_decimal n h =
     decimal_by_steps (λ m ds. AllAbove 47 ds) (λ m small. (omega arith, tt))
-      (λ m ds _ front. above-append 47 ds ((48 + m % 10) ∷ []) front (omega arith, tt)) n h
+    (λ m ds _ front. above-append 47 ds ((48 + m % 10) ∷ []) front (omega arith, tt)) n h
 
 above_hex_digit : (d : ℕ) → d < 16 → 47 < hex_digit d
 above_hex_digit d h = grind (arith, nat_tests)
