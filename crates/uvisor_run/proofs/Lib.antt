@@ -1,0 +1,4 @@
+pub mod Checking
+pub mod Runs
+pub mod Told
+pub mod WordLengths

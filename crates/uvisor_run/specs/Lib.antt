@@ -1,0 +1,6 @@
+pub mod Accept
+pub mod CheckText
+pub mod Headline
+pub mod Output
+pub mod RefusalText
+pub mod Runnable
