@@ -106,12 +106,14 @@ round_up-exponent n j is fits =
           absurd (omega arith)
     ])
 
+-- the least power of at least 32 is what rounding up gives
 pub round_up-at : (n power : ℕ) → IsLeastPower 32 n power → power ≤ 2 ^ 31 → round_up n ≡ Some power
 round_up-at n power is fits =
     let (j, same) = is.is_power in
     let P : ℕ → Type 0 = λ p. IsLeastPower 32 n p → p ≤ 2 ^ 31 → round_up n ≡ Some p in
     subst P (sym same) (round_up-exponent n j) is fits
 
+-- above 2 ^ 31 nothing is given
 pub round_up-past : (n : ℕ) → 2 ^ 31 < n → round_up n ≡ None
 unfolding round_up
 round_up-past n above = none_upward 27 5 n (λ i less. let up : 2 ^ i ≤ 2 ^ 31 = pow_mono {i = i} {j = 31} (omega arith) in omega arith)
@@ -127,6 +129,7 @@ greatest_power n k within double = record {
       pow_mono {i = i} {j = k} (omega arith);
 }
 
+-- the power with the length below its double is what rounding down gives
 pub round_down-at : (n k : ℕ) → 32 ≤ n → n < 2 ^ 32 → 2 ^ k ≤ n → n < 2 * 2 ^ k → round_down n ≡ Some (2 ^ k)
 unfolding round_down
 round_down-at n k low high within double =
@@ -136,6 +139,7 @@ round_down-at n k low high within double =
     found_downward 27 5 k n (omega arith) (omega arith) within
     (λ i more. let up : 2 ^ suc k ≤ 2 ^ i = pow_mono {i = suc k} {j = i} more in omega (arith, twice))
 
+-- below 32 nothing is given
 pub round_down-below : (n : ℕ) → n < 32 → round_down n ≡ None
 unfolding round_down
 round_down-below n below = none_downward 27 5 n below
@@ -194,6 +198,7 @@ is_power-told n told below there back = elim (cases_Bool told) [
   ]
 ]
 
+-- the number 0 is no power of two
 pub zero_is_no_power : is_power 0 ≡ false
 unfolding is_power powers_from
 zero_is_no_power = refl

@@ -26,13 +26,15 @@ optional k r l = record { 0 = k; 1 = r; 2 = l; 3 = false }
 abbrev pub a_word : Rule
 a_word = rule.Integer 0 4294967295
 
--- an array of tables, an array of at least one table, and an array of strings
+-- an array of tables
 abbrev pub tables : Rule
 tables = rule.Array each.Table false
 
+-- an array of at least one table
 abbrev pub some_tables : Rule
 some_tables = rule.Array each.Table true
 
+-- an array of strings
 abbrev pub texts : Rule
 texts = rule.Array each.Text false
 

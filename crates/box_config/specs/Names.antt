@@ -1,27 +1,15 @@
--- Which names boxes may have.
-use Rattle.std.specs.Prelude.{ℕ, Bool, false, not, ◌&&◌, ◌||◌, ◌==◌, nat_le, List, [], ◌∷◌, length, Option, option_map, Result}
-use Rattle.std.specs.List.{list_all, list_any}
+-- What the names of boxes are refused for.
+use Rattle.std.specs.Prelude.{ℕ, Bool, not, List, [], Option, option_map, Result}
+use Rattle.std.specs.List.{list_any}
 use Rattle.std.specs.Option.{option_or}
 use Rattle.std.specs.Str.{bytes_eq}
 use Rattle.flat_model.specs.First.{first_after, first_index, unless_refused}
+use Rattle.flat_model.specs.Names.{is_name}
 use Rattle.flat_model.specs.declared.refusals.Refused.{Refused}
 use Rattle.flat_model.specs.declared.refusals.Refused.TheVariants as refused
 use Rattle.flat_model.specs.declared.texts.BoxText.{BoxText}
 use Rattle.toml.specs.Data.{Members}
 use Rattle.box_config.specs.Texts.{boxes_of}
-
--- a lower-case letter
-abbrev pub is_letter : ℕ → Bool
-is_letter c = nat_le 97 c && nat_le c 122
-
--- a lower-case letter, a digit or `_`
-abbrev pub is_name_byte : ℕ → Bool
-is_name_byte c = is_letter c || ((nat_le 48 c && nat_le c 57) || (c == 95))
-
--- a lower-case letter, and at most 15 lower-case letters, digits or `_`
-abbrev pub is_name : List ℕ → Bool
-is_name [] = false
-is_name (c ∷ cs) = is_letter c && (nat_le (length cs) 15 && list_all is_name_byte cs)
 
 -- one of the boxes has the name
 abbrev pub is_named_among : List ℕ → List BoxText → Bool

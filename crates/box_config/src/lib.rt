@@ -6,6 +6,8 @@ mod devices;
 mod gates;
 mod names;
 mod parts;
+#[cfg(test)]
+mod tests;
 mod texts;
 
 pub use boxes::read_boxes;

@@ -1,13 +1,14 @@
 ghost use Rattle.std.specs.Prelude.{◌≡◌, [], not};
 ghost use Rattle.std.specs.List.{list_all};
 ghost use Rattle.flat_model.specs.First.{first_after, first_index};
-ghost use Rattle.box_config.specs.Names.{is_letter, is_name, is_name_byte, is_named_among, name_refusal};
+ghost use Rattle.flat_model.specs.Names.{is_lower, is_name, is_name_byte};
+ghost use Rattle.box_config.specs.Names.{is_named_among, name_refusal};
 
 use board_map::number;
 use flat_model::{BoxText, Refused};
 
-fn is_letter(byte: u8) -> bool
-    ensures { result ≡ is_letter byte }
+fn is_lower(byte: u8) -> bool
+    ensures { result ≡ is_lower byte }
 {
     b'a' <= byte && byte <= b'z'
 }
@@ -15,7 +16,7 @@ fn is_letter(byte: u8) -> bool
 fn is_name_byte(byte: u8) -> bool
     ensures { result ≡ is_name_byte byte }
 {
-    is_letter(byte) || b'0' <= byte && byte <= b'9' || byte == b'_'
+    is_lower(byte) || b'0' <= byte && byte <= b'9' || byte == b'_'
 }
 
 fn are_name_bytes(bytes: &[u8]) -> bool
@@ -29,7 +30,7 @@ fn is_name(name: &[u8]) -> bool
     ensures { result ≡ is_name name.now }
 {
     match name {
-        [first, rest @ ..] => is_letter(*first) && rest.len() <= 15 && are_name_bytes(rest),
+        [first, rest @ ..] => is_lower(*first) && rest.len() <= 15 && are_name_bytes(rest),
         [] => false,
     }
 }

@@ -17,6 +17,7 @@ kept_last : (kept : Bool) (k : Key) → unless_kept kept k ≡ None → kept ≡
 kept_last true k none = refl
 kept_last false k none = absurd (cc)
 
+-- a board without a fault keeps each rule
 pub rules_from_fault : (board : Board) → board_fault board ≡ None → KeepsBoardRules board
 unfolding board_fault
 rules_from_fault board none =
@@ -34,6 +35,7 @@ rules_from_fault board none =
       heap = kept_last (is_heap board.sram board.heap) key.Heap words.1;
     }
 
+-- a board that keeps each rule has no fault
 pub fault_from_rules : (board : Board) → KeepsBoardRules board → board_fault board ≡ None
 unfolding board_fault
 fault_from_rules board rules = rw (rules.flash, rules.sram, rules.peripherals, rules.secret, rules.words, rules.heap) refl

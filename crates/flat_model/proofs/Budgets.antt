@@ -70,13 +70,14 @@ pub turn_row-within : (cfg : Config) (who : Who) (part : BoxPart) (thread : Thre
     (turn_row cfg who part thread m th).thread.steps < thread.steps
 turn_row-within cfg who part thread m th = by_end (has_ended th) refl
   where
-  out : Outcome
-  out = acting_row cfg who part thread m (counted th)
-  by_end : (b : Bool) → has_ended th ≡ b →
-      has_ended (cond b (by_itself m (th, reply.Ended)) (within_budget thread.steps out)).thread ≡ false →
-      (cond b (by_itself m (th, reply.Ended)) (within_budget thread.steps out)).thread.steps < thread.steps
-  by_end true ended live = absurd (true≢false (sym ended ∙ live))
-  by_end false ended live = bounded-within thread.steps out.thread live
+    out : Outcome
+    out = acting_row cfg who part thread m (counted th)
+
+    by_end : (b : Bool) → has_ended th ≡ b →
+        has_ended (cond b (by_itself m (th, reply.Ended)) (within_budget thread.steps out)).thread ≡ false →
+        (cond b (by_itself m (th, reply.Ended)) (within_budget thread.steps out)).thread.steps < thread.steps
+    by_end true ended live = absurd (true≢false (sym ended ∙ live))
+    by_end false ended live = bounded-within thread.steps out.thread live
 
 performed-steps : (board : Board) (m : Shared) (th : ThreadState) (access : Access) (kind : Kind) →
     (performed_row board m th access kind).thread.steps ≡ th.steps
@@ -88,12 +89,12 @@ access-steps : (cfg : Config) (home : ℕ) (m : Shared) (th : ThreadState) (acce
     (access_row cfg home m th access).thread.steps ≡ th.steps
 access-steps cfg home m th access = by_tests (is_aligned access.at access.size) (may_access cfg m.owners home access.at access.size access.kind)
   where
-  by_tests : (b c : Bool) →
-      (cond b (cond c (performed_row cfg.board m th access access.kind)
-          (fault_row m th (violation_of access.kind) access.at)) (fault_row m th flaw.Unaligned access.at)).thread.steps ≡ th.steps
-  by_tests true true = performed-steps cfg.board m th access access.kind
-  by_tests true false = refl
-  by_tests false c = refl
+    by_tests : (b c : Bool) →
+        (cond b (cond c (performed_row cfg.board m th access access.kind)
+        (fault_row m th (violation_of access.kind) access.at)) (fault_row m th flaw.Unaligned access.at)).thread.steps ≡ th.steps
+    by_tests true true = performed-steps cfg.board m th access access.kind
+    by_tests true false = refl
+    by_tests false c = refl
 
 branch-steps : (th : ThreadState) (place : ℕ) (b : Bool) → (cond b (record th { pc = place }) (moved th)).steps ≡ th.steps
 branch-steps th place true = refl
@@ -128,11 +129,11 @@ look-steps : (who : Who) (m : Shared) (th : ThreadState) (awaited : Awaited) (va
 look-steps who m th awaited (Some value) = refl
 look-steps who m th awaited None = by_looks (nat_eq (awaited.looks - 1) 0)
   where
-  by_looks : (b : Bool) →
-      (cond {A = Outcome} b (record { shared = m; thread = timed_out th awaited.seq; reply = reply.Status 1 })
-          (record { shared = m; thread = looking th awaited.seq (awaited.looks - 1); reply = reply.Waiting })).thread.steps ≡ th.steps
-  by_looks true = refl
-  by_looks false = refl
+    by_looks : (b : Bool) →
+        (cond {A = Outcome} b (record { shared = m; thread = timed_out th awaited.seq; reply = reply.Status 1 })
+        (record { shared = m; thread = looking th awaited.seq (awaited.looks - 1); reply = reply.Waiting })).thread.steps ≡ th.steps
+    by_looks true = refl
+    by_looks false = refl
 
 waiting-steps : (who : Who) (m : Shared) (th : ThreadState) (awaited : Option Awaited) →
     (waiting_row who m th awaited).thread.steps ≡ th.steps
@@ -148,11 +149,11 @@ acting-steps : (cfg : Config) (who : Who) (part : BoxPart) (thread : ThreadPart)
     runs_today (slice_get thread.program th.pc) ≡ true → (acting_row cfg who part thread m th).thread.steps ≡ th.steps
 acting-steps cfg who part thread m th today = by_mode (is_waiting th.mode)
   where
-  by_mode : (b : Bool) →
-      (cond b (waiting_row who m th th.awaited)
-          (ready_row cfg who part thread m th (due_interrupt m.lines part who.home.0 who.thread.0))).thread.steps ≡ th.steps
-  by_mode true = waiting-steps who m th th.awaited
-  by_mode false = ready-steps cfg who part thread m th (due_interrupt m.lines part who.home.0 who.thread.0) today
+    by_mode : (b : Bool) →
+        (cond b (waiting_row who m th th.awaited)
+        (ready_row cfg who part thread m th (due_interrupt m.lines part who.home.0 who.thread.0))).thread.steps ≡ th.steps
+    by_mode true = waiting-steps who m th th.awaited
+    by_mode false = ready-steps cfg who part thread m th (due_interrupt m.lines part who.home.0 who.thread.0) today
 
 -- a turn of a thread that has not ended counts one step
 pub turn_row-steps : (cfg : Config) (who : Who) (part : BoxPart) (thread : ThreadPart) (m : Shared) (th : ThreadState) →

@@ -21,6 +21,6 @@ decision-none pairs a kind none = ap (verdict_of pairs kind) (greatest-is (match
 pub decision-at : (pairs : List Pair) (a : ℕ) (kind : Kind) (s : ℕ) (p : Pair) → slice_get pairs s ≡ Some p → matches p a ≡ true → ((j : ℕ) → s < j → j < length pairs → matches_at pairs a j ≡ false) → decision pairs a kind ≡ (if pair_gives p kind then Granted s else Denied)
 decision-at pairs a kind s p found hit above =
     let it : IsGreatest (matches_at pairs a) (length pairs) s =
-        record { below = slice_get_within pairs s p found; here = matches_at-some pairs a s p found ∙ hit; above = above } in
+    record { below = slice_get_within pairs s p found; here = matches_at-some pairs a s p found ∙ hit; above = above } in
     ap (verdict_of pairs kind) (greatest-is (matches_at pairs a) (length pairs) (Some s) it)
     ∙ ap (λ o. if option_map_or (λ q. pair_gives q kind) o false then Granted s else Denied) found

@@ -13,11 +13,11 @@ use Rattle.flat_model.proofs.Powers.{divides_below, smaller}
 -- two exponents of the largest block are one
 pub IsLargest_same : (p e j k : ℕ) → IsLargest p e j → IsLargest p e k → j ≡ k
 IsLargest_same p e j k first second = elim (cases_order j k) [
-    inl same ↦ same
+  | inl same ↦ same
   | inr rest ↦ elim rest [
-        inl less ↦ absurd (first.largest k less second.whole second.within)
-      | inr more ↦ absurd (second.largest j more first.whole first.within)
-    ]
+    | inl less ↦ absurd (first.largest k less second.whole second.within)
+    | inr more ↦ absurd (second.largest j more first.whole first.within)
+  ]
 ]
 
 -- a number whose low bits are 0 is a multiple of their power
@@ -44,17 +44,17 @@ record HasZeros (p t : ℕ) : Type 0 where
 
 HasZeros-trailing : (p : ℕ) → p < 2 ^ 32 → HasZeros p (trailing_zeros w32 p)
 HasZeros-trailing p below = elim (cases_lt 0 p) [
-    inl some ↦
+  | inl some ↦
       let it = bit_at-trailing_zeros w32 p some below in
       record {
-          least = λ k up_to. divides_below k (trailing_zeros w32 p) p up_to (low_zero p (trailing_zeros w32 p) it.2);
-          most = λ k limit more whole. next_one p (trailing_zeros w32 p) it.1 (divides_below (1 + trailing_zeros w32 p) k p (omega arith) whole);
+        least = λ k up_to. divides_below k (trailing_zeros w32 p) p up_to (low_zero p (trailing_zeros w32 p) it.2);
+        most = λ k limit more whole. next_one p (trailing_zeros w32 p) it.1 (divides_below (1 + trailing_zeros w32 p) k p (omega arith) whole);
       }
   | inr none ↦
       let empty : p ≡ 0 = omega arith in
       subst (λ n. HasZeros n (trailing_zeros w32 n)) (sym empty) (record {
-          least = λ k up_to. zero-mod (2 ^ k);
-          most = λ k limit more whole. absurd (omega (arith, trailing_of_zero 32));
+        least = λ k up_to. zero-mod (2 ^ k);
+        most = λ k limit more whole. absurd (omega (arith, trailing_of_zero 32));
       })
 ]
 
@@ -62,24 +62,24 @@ HasZeros-trailing p below = elim (cases_lt 0 p) [
 pub exponent-is : (p e k : ℕ) → IsSpan p e → p < e → k ≡ min (trailing_zeros w32 p) (31 - leading_zeros w32 (e - p)) → k ≡ exponent p e
 exponent-is p e k span before is =
     IsLargest_same p e k (exponent p e) (largest (leading_top 32 (e - p) (omega arith) (omega (arith, span.limit))) (HasZeros-trailing p (omega (arith, span.limit)))) (IsLargest-exponent p e span before)
- where
-  largest : ((j : ℕ) × (leading_zeros w32 (e - p) + suc j ≡ 32) × (2 ^ j ≤ e - p) × (e - p < 2 ^ suc j)) → HasZeros p (trailing_zeros w32 p) → IsLargest p e k
-  largest top zeros =
-      let t : ℕ = trailing_zeros w32 p in
-      let j : ℕ = top.0 in
-      let counted : 31 - leading_zeros w32 (e - p) ≡ j = omega (arith, top.1) in
-      let lesser : k ≡ min t j = subst (λ m. k ≡ min t m) counted is in
-      let by_low : k ≤ t = omega arith in
-      let by_high : k ≤ j = omega arith in
-      let top_limit : j < 32 = omega (arith, top.1) in
-      let room : 32 ≤ e - p = omega (arith, span.low, span.high) in
-      let high_enough : 5 < suc j = smaller 5 (suc j) (omega (arith, top.3)) in
-      let low_enough : 5 ≤ t = elim (cases_lt t 5) [
-          inl few ↦ absurd (zeros.most 5 (omega arith) few span.low)
-        | inr fine ↦ fine
-      ] in
-      let small : 2 ^ k ≤ 2 ^ j = pow-le-pow_right (omega arith) {i = k} {j = j} by_high in
-      record {
+  where
+    largest : ((j : ℕ) × (leading_zeros w32 (e - p) + suc j ≡ 32) × (2 ^ j ≤ e - p) × (e - p < 2 ^ suc j)) → HasZeros p (trailing_zeros w32 p) → IsLargest p e k
+    largest top zeros =
+        let t : ℕ = trailing_zeros w32 p in
+        let j : ℕ = top.0 in
+        let counted : 31 - leading_zeros w32 (e - p) ≡ j = omega (arith, top.1) in
+        let lesser : k ≡ min t j = subst (λ m. k ≡ min t m) counted is in
+        let by_low : k ≤ t = omega arith in
+        let by_high : k ≤ j = omega arith in
+        let top_limit : j < 32 = omega (arith, top.1) in
+        let room : 32 ≤ e - p = omega (arith, span.low, span.high) in
+        let high_enough : 5 < suc j = smaller 5 (suc j) (omega (arith, top.3)) in
+        let low_enough : 5 ≤ t = elim (cases_lt t 5) [
+          | inl few ↦ absurd (zeros.most 5 (omega arith) few span.low)
+          | inr fine ↦ fine
+        ] in
+        let small : 2 ^ k ≤ 2 ^ j = pow-le-pow_right (omega arith) {i = k} {j = j} by_high in
+        record {
           enough = omega arith;
           limit = omega arith;
           whole = zeros.least k by_low;
@@ -87,4 +87,4 @@ exponent-is p e k span before is =
           largest = λ i more whole within.
               let below : i < suc j = smaller i (suc j) (omega (arith, top.3)) in
               zeros.most i (omega arith) (omega arith) whole;
-      }
+        }

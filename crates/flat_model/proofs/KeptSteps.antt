@@ -38,7 +38,7 @@ get-slice_set (y ∷ xs) zero v zero x at = inr (refl, let same : x ≡ v = cc i
 get-slice_set (y ∷ xs) zero v (suc i) x at = inl at
 get-slice_set (y ∷ xs) (suc t) v zero x at = inl at
 get-slice_set (y ∷ xs) (suc t) v (suc i) x at = elim (get-slice_set xs t v i x at) [
-    inl old ↦ inl old
+  | inl old ↦ inl old
   | inr new ↦ inr (ap suc new.0, new.1)
 ]
 
@@ -53,11 +53,11 @@ steps_left-set (p ∷ threads) (s ∷ states) zero thread th v k there here less
     let one : p ≡ thread = cc in
     let two : s ≡ th = cc in
     subst (λ q. steps_left_of q v + steps_left threads states + k ≤ steps_left_of q s + steps_left threads states) (sym one)
-        (subst (λ q. steps_left_of thread v + steps_left threads states + k ≤ steps_left_of thread q + steps_left threads states) (sym two)
-            (omega arith))
+    (subst (λ q. steps_left_of thread v + steps_left threads states + k ≤ steps_left_of thread q + steps_left threads states) (sym two)
+    (omega arith))
 steps_left-set (p ∷ threads) (s ∷ states) (suc t) thread th v k there here less =
     let rest : steps_left threads (slice_set states t v) + k ≤ steps_left threads states =
-        steps_left-set threads states t thread th v k there here less in
+    steps_left-set threads states t thread th v k there here less in
     omega arith
 
 left-by : (thread : ThreadPart) (th v : ThreadState) (a b : Bool) →
@@ -72,8 +72,8 @@ pub left-turn : (cfg : Config) (who : Who) (part : BoxPart) (t : ℕ) (thread : 
     steps_left_of thread (turn_row cfg who part thread f.shared th).thread + 1 ≤ steps_left_of thread th
 left-turn cfg who part t thread f th today there live below =
     left-by thread th (turn_row cfg who part thread f.shared th).thread true
-        (has_ended (turn_row cfg who part thread f.shared th).thread) live refl
-        (turn_row-steps cfg who part thread f.shared th (config_today cfg t th.pc thread today there) live) below
+    (has_ended (turn_row cfg who part thread f.shared th).thread) live refl
+    (turn_row-steps cfg who part thread f.shared th (config_today cfg t th.pc thread today there) live) below
 
 module _ (cfg : Config) (sound : IsSound cfg) where
   -- budgets are small
@@ -90,7 +90,7 @@ module _ (cfg : Config) (sound : IsSound cfg) where
   can_step-in f t room thread th None there all = all
   can_step-in f t room thread th (Some part) there all = λ i x at.
       elim (get-slice_set f.threads t.0 (turn_row cfg (record { home = thread.home; thread = t; room = room }) part thread f.shared th).thread i x at) [
-          inl old ↦ all i x old
+        | inl old ↦ all i x old
         | inr new ↦ subst CanStep (sym new.1)
             (can-step t.0 thread (turn_row cfg (record { home = thread.home; thread = t; room = room }) part thread f.shared th).thread there (turn_row-within cfg (record { home = thread.home; thread = t; room = room }) part thread f.shared th))
       ]
@@ -120,13 +120,13 @@ module _ (cfg : Config) (sound : IsSound cfg) where
       subst (λ (p : Flat × Reply). AllCanStep p.0) (sym (step-idle cfg f t today)) all
   can_step-step f (choice.Ring line by) today all = by_owner (is_owned_line cfg line.0) refl
     where
-    by_owner : (b : Bool) → is_owned_line cfg line.0 ≡ b → AllCanStep (step cfg f (choice.Ring line by)).0
-    by_owner true owned =
-        subst (λ (p : Flat × Reply). AllCanStep p.0) (sym (step-ring cfg f line by owned)) all
-    by_owner false owned =
-        subst (λ (p : Flat × Reply). AllCanStep p.0) (sym (step-unowned cfg f line by owned)) all
+      by_owner : (b : Bool) → is_owned_line cfg line.0 ≡ b → AllCanStep (step cfg f (choice.Ring line by)).0
+      by_owner true owned =
+          subst (λ (p : Flat × Reply). AllCanStep p.0) (sym (step-ring cfg f line by owned)) all
+      by_owner false owned =
+          subst (λ (p : Flat × Reply). AllCanStep p.0) (sym (step-unowned cfg f line by owned)) all
 
-get-replicate : {A : Type 0} (n : ℕ) (v : A) (i : ℕ) (x : A) → slice_get (replicate n v) i ≡ Some x → x ≡ v
+pub get-replicate : {A : Type 0} (n : ℕ) (v : A) (i : ℕ) (x : A) → slice_get (replicate n v) i ≡ Some x → x ≡ v
 get-replicate zero v i x at = absurd (let e : None ≡ Some x = at in cc)
 get-replicate (suc n) v zero x at = let same : x ≡ v = cc in same
 get-replicate (suc n) v (suc i) x at = get-replicate n v i x at
@@ -135,7 +135,7 @@ get-replicate (suc n) v (suc i) x at = get-replicate n v i x at
 pub can_step-opening : (cfg : Config) (f : Flat) → f.threads ≡ replicate (length cfg.threads) opening_thread → AllCanStep f
 can_step-opening cfg f fresh t th at =
     let is : th ≡ opening_thread =
-        get-replicate (length cfg.threads) opening_thread t th (subst (λ xs. slice_get xs t ≡ Some th) fresh at) in
+    get-replicate (length cfg.threads) opening_thread t th (subst (λ xs. slice_get xs t ≡ Some th) fresh at) in
     subst CanStep (sym is) (λ live. omega arith)
 
 get-append : {A : Type 0} (xs ys : List A) (i : ℕ) (x : A) → slice_get (xs ++ ys) i ≡ Some x →
@@ -148,8 +148,8 @@ homes-below : (b : ℕ) (parts : List BoxPart) (t : ℕ) (home : BoxId) →
     slice_get (homes_from b parts) t ≡ Some home → home.0 < b + length parts
 homes-below b [] t home at = absurd (let e : None ≡ Some home = at in cc)
 homes-below b (part ∷ parts) t home at = elim (get-append (replicate part.threads (record { 0 = b })) (homes_from (b + 1) parts) t home at) [
-    inl here ↦ let is : home ≡ record { 0 = b } = get-replicate part.threads (record { 0 = b }) t home here in
-        subst (λ (h : BoxId). h.0 < b + length (part ∷ parts)) (sym is) (omega arith)
+  | inl here ↦ let is : home ≡ record { 0 = b } = get-replicate part.threads (record { 0 = b }) t home here in
+      subst (λ (h : BoxId). h.0 < b + length (part ∷ parts)) (sym is) (omega arith)
   | inr later ↦ let below : home.0 < (b + 1) + length parts = homes-below (b + 1) parts later.0 home later.1 in omega arith
 ]
 
@@ -158,7 +158,7 @@ pub home-there : (cfg : Config) (t : ℕ) (thread : ThreadPart) → IsSound cfg 
     (part : BoxPart) × (slice_get cfg.boxes thread.home.0 ≡ Some part)
 home-there cfg t thread sound at =
     let home : slice_get (map (λ (p : ThreadPart). p.home) cfg.threads) t ≡ Some thread.home =
-        slice_get-map (λ (p : ThreadPart). p.home) cfg.threads t ∙ ap (option_map (λ (p : ThreadPart). p.home)) at in
+    slice_get-map (λ (p : ThreadPart). p.home) cfg.threads t ∙ ap (option_map (λ (p : ThreadPart). p.home)) at in
     let below : thread.home.0 < 0 + length cfg.boxes =
-        (homes-below 0 cfg.boxes t thread.home (subst (λ xs. slice_get xs t ≡ Some thread.home) sound.homes home)) in
+    (homes-below 0 cfg.boxes t thread.home (subst (λ xs. slice_get xs t ≡ Some thread.home) sound.homes home)) in
     slice_get_some cfg.boxes thread.home.0 (omega arith)

@@ -51,7 +51,7 @@ entries-run cfg f (e ∷ es) same =
     let answered : e.reply ≡ reply_to cfg f e.choice = first-same e.reply (reply_to cfg f e.choice) _ _ same in
     ap (λ r. record { choice = e.choice; reply = r } ∷ es) answered
     ∙ ap (λ more. record { choice = e.choice; reply = reply_to cfg f e.choice } ∷ more)
-      (entries-run cfg (state_after cfg f e.choice) es (rest-same e.reply (reply_to cfg f e.choice) _ _ same))
+    (entries-run cfg (state_after cfg f e.choice) es (rest-same e.reply (reply_to cfg f e.choice) _ _ same))
 
 -- a legal log is the one log of its choices
 pub legal-one_log : (cfg : Config) (log : Log) → IsLegal cfg log → log ≡ log_of_choices cfg (choices_of log.items)
@@ -59,7 +59,7 @@ unfolding log_of_choices
 legal-one_log cfg log legal =
     let ran : entries_of log.items ≡ entries_of_run cfg (opening_state cfg) (choices_of log.items) = entries-run cfg (opening_state cfg) (entries_of log.items) legal.flat.replies in
     ap (λ items. record { items = items; ends = log.ends })
-      (sym (woven-items log.items legal.unit.closed)
-      ∙ ap (λ lines. woven_items lines (entries_of log.items)) legal.unit.lines
-      ∙ ap (λ entries. woven_items (lines_of_run cfg (opening_state cfg) opening_unit (choices_of log.items)) entries) ran)
+    (sym (woven-items log.items legal.unit.closed)
+    ∙ ap (λ lines. woven_items lines (entries_of log.items)) legal.unit.lines
+    ∙ ap (λ entries. woven_items (lines_of_run cfg (opening_state cfg) opening_unit (choices_of log.items)) entries) ran)
     ∙ ap (λ ends. record { items = (log_of_choices cfg (choices_of log.items)).items; ends = ends }) legal.flat.ends

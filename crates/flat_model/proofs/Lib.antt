@@ -1,3 +1,4 @@
+pub mod Agreement
 pub mod Blocks
 pub mod BoardFacts
 pub mod Budgets
@@ -16,12 +17,14 @@ pub mod LegalLogs
 pub mod NamedChoices
 pub mod NamedLogs
 pub mod NamedReplies
+pub mod Owners
 pub mod PageGroups
 pub mod PageLemmas
 pub mod PagePairs
 pub mod Pieces
 pub mod Placed
 pub mod Powers
+pub mod Recovered
 pub mod Recovery
 pub mod Suited
 pub mod TodayLemmas

@@ -162,7 +162,7 @@ full_in : (cfg : Config) (f : Flat) (t : ThreadId) (thread : ThreadPart) (th : T
 full_in cfg f t thread th None b wants = absurd (plain-room b wants)
 full_in cfg f t thread th (Some part) b wants =
     full_turn cfg (record { home = thread.home; thread = t; room = false }) part thread f.shared th refl refl
-      (calls_by cfg part thread f.shared th t.0 b (next_instruction part thread f.shared th t.0) refl wants)
+    (calls_by cfg part thread f.shared th t.0 b (next_instruction part thread f.shared th t.0) refl wants)
 
 full_at : (cfg : Config) (f : Flat) (t : ThreadId) (thread : Option ThreadPart) (th : Option ThreadState) (b : BoxId) → want_at cfg f.shared t.0 thread th ≡ want.Room b → is_full_reply (turn_at cfg f t false thread th).1 ≡ true
 full_at cfg f t None th b wants = absurd (plain-room b wants)
@@ -191,8 +191,8 @@ start-named cfg home m th ticket = by_call (oldest_posted_by ticket.thread.0 hom
         let passes = find-passes (λ (c : Call). is_posted_to home c && nat_eq c.ticket.thread.0 ticket.thread.0) m.calls call is in
         let same : call.ticket.thread.0 ≡ ticket.thread.0 = eqb-true call.ticket.thread.0 ticket.thread.0 (both_true (is_posted_to home call) (nat_eq call.ticket.thread.0 ticket.thread.0) passes).1 in
         elim (cases_Bool (nat_eq call.ticket.seq ticket.seq)) [
-        | inl next ↦ rw next (eq-eqb (home_of cfg call.ticket.thread.0).0 (home_of cfg ticket.thread.0).0 (ap (λ n. (home_of cfg n).0) same))
-        | inr another ↦ rw another refl
+          | inl next ↦ rw next (eq-eqb (home_of cfg call.ticket.thread.0).0 (home_of cfg ticket.thread.0).0 (ap (λ n. (home_of cfg n).0) same))
+          | inr another ↦ rw another refl
         ]
 
 serve-named : (cfg : Config) (f : Flat) (t : ThreadId) (ticket : Ticket) (thread : Option ThreadPart) (th : Option ThreadState) → IsServed thread th → is_start_reply (home_of cfg ticket.thread.0) (serve_at cfg f t (Some ticket) thread th).1 ≡ true
@@ -212,9 +212,9 @@ idle-named cfg f t (Some thread) (Some th) served = refl
 line_there : (cfg : Config) (line : ℕ) → HasNamedLines cfg → is_owned_line cfg line ≡ true → line < LINES
 line_there cfg line all owned =
     from_any (λ part. HasLines part.irqs) (λ part. has_line line part.irqs) (line < LINES)
-      (λ part lines has. from_any (λ irq. irq.line.0 < LINES) (λ irq. nat_eq irq.line.0 line) (line < LINES)
-        (λ irq there same. subst (λ n. n < LINES) (eqb-true irq.line.0 line same) there) part.irqs lines has)
-      cfg.boxes all owned
+    (λ part lines has. from_any (λ irq. irq.line.0 < LINES) (λ irq. nat_eq irq.line.0 line) (line < LINES)
+    (λ irq there same. subst (λ n. n < LINES) (eqb-true irq.line.0 line same) there) part.irqs lines has)
+    cfg.boxes all owned
 
 -- a choice that fits is answered as its step says
 pub reply_to-fitting : (cfg : Config) (f : Flat) (c : Choice) → fits cfg f c ≡ true → reply_to cfg f c ≡ (fitting_step cfg f c).1
@@ -226,25 +226,25 @@ pub entry-named : (cfg : Config) (f : Flat) (c : Choice) → HasNamedLines cfg �
 entry-named cfg f (choice.Turn t true) all fitting =
     let it = both_true (is_thread cfg t) (fits_with_room (want_of cfg f t.0)) fitting in
     subst (λ r. is_named_choice cfg (choice.Turn t true) r ≡ true) (sym (reply_to-fitting cfg f (choice.Turn t true) fitting))
-      (rw it.0 (turn_at-named cfg f t (slice_get cfg.threads t.0) (slice_get f.threads t.0) all))
+    (rw it.0 (turn_at-named cfg f t (slice_get cfg.threads t.0) (slice_get f.threads t.0) all))
 entry-named cfg f (choice.Turn t false) all fitting =
     let it = both_true (is_thread cfg t) (fits_without_room cfg f t.0 (want_of cfg f t.0)) fitting in
     let room = wants_room cfg f t.0 (want_of cfg f t.0) it.1 in
     subst (λ r. is_named_choice cfg (choice.Turn t false) r ≡ true) (sym (reply_to-fitting cfg f (choice.Turn t false) fitting))
-      (rw it.0 (full_at cfg f t (slice_get cfg.threads t.0) (slice_get f.threads t.0) room.0 room.1))
+    (rw it.0 (full_at cfg f t (slice_get cfg.threads t.0) (slice_get f.threads t.0) room.0 room.1))
 entry-named cfg f (choice.Start t ticket) all fitting =
     let it = both_true (is_thread cfg t && is_thread cfg ticket.thread) (wants_next (want_of cfg f t.0)) fitting in
     let there = both_true (is_thread cfg t) (is_thread cfg ticket.thread) it.0 in
     subst (λ r. is_named_choice cfg (choice.Start t ticket) r ≡ true) (sym (reply_to-fitting cfg f (choice.Start t ticket) fitting))
-      (rw (there.0, there.1)
-        (serve-named cfg f t ticket (slice_get cfg.threads t.0) (slice_get f.threads t.0)
-          (served_from_next cfg f.shared t.0 (slice_get cfg.threads t.0) (slice_get f.threads t.0) it.1)))
+    (rw (there.0, there.1)
+    (serve-named cfg f t ticket (slice_get cfg.threads t.0) (slice_get f.threads t.0)
+    (served_from_next cfg f.shared t.0 (slice_get cfg.threads t.0) (slice_get f.threads t.0) it.1)))
 entry-named cfg f (choice.Idle t) all fitting =
     let it = both_true (is_thread cfg t) (wants_next (want_of cfg f t.0)) fitting in
     subst (λ r. is_named_choice cfg (choice.Idle t) r ≡ true) (sym (reply_to-fitting cfg f (choice.Idle t) fitting))
-      (rw it.0
-        (idle-named cfg f t (slice_get cfg.threads t.0) (slice_get f.threads t.0)
-          (served_from_next cfg f.shared t.0 (slice_get cfg.threads t.0) (slice_get f.threads t.0) it.1)))
+    (rw it.0
+    (idle-named cfg f t (slice_get cfg.threads t.0) (slice_get f.threads t.0)
+    (served_from_next cfg f.shared t.0 (slice_get cfg.threads t.0) (slice_get f.threads t.0) it.1)))
 entry-named cfg f (choice.Ring line by) all fitting =
     subst (λ r. is_named_choice cfg (choice.Ring line by) r ≡ true) (sym (reply_to-fitting cfg f (choice.Ring line by) fitting))
-      (rw (lt-ltb line.0 LINES (line_there cfg line.0 all fitting)) refl)
+    (rw (lt-ltb line.0 LINES (line_there cfg line.0 all fitting)) refl)

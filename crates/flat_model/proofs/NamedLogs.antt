@@ -86,7 +86,7 @@ IsShaped-box cfg f u c (Some b) None it = it
 IsShaped-box cfg f u c (Some b) (Some part) it =
     let plan : List Pair = plan_of cfg f.shared.owners b.0 part in
     IsShaped-flushed (empties_slots cfg f c) (accessed plan (entered cfg part u b) (touch_of cfg f c))
-      (IsShaped-accessed plan (entered cfg part u b) (touch_of cfg f c) (IsShaped-entered cfg part u b it))
+    (IsShaped-accessed plan (entered cfg part u b) (touch_of cfg f c) (IsShaped-entered cfg part u b it))
 
 -- every event keeps the unit's shape
 pub IsShaped-after : (cfg : Config) (f : Flat) (u : UnitState) (c : Choice) → IsShaped u → IsShaped (unit_after cfg f u c)
@@ -104,8 +104,8 @@ verdict-named pairs a kind regions = by_slot (greatest (matches_at pairs a) (len
     by_slot (Some s) is says =
         let below = (subst (Says (matches_at pairs a) (length pairs)) is says).below in
         elim (cases_Bool (gives_at pairs kind s)) [
-        | inl gives ↦ rw gives (lt-ltb s REGIONS (omega (arith, below, regions)))
-        | inr keeps ↦ rw keeps refl
+          | inl gives ↦ rw gives (lt-ltb s REGIONS (omega (arith, below, regions)))
+          | inr keeps ↦ rw keeps refl
         ]
 
 -- the access has a size that there is, where there is one
@@ -171,8 +171,8 @@ access-named cfg plan u None it sized = refl
 access-named cfg plan u (Some access) it sized =
     let v : UnitState = rotated u (rotating_pair plan u access) in
     named-append cfg (rotate_lines u (rotating_pair plan u access)) (access_line v access ∷ [])
-      (rotate-named cfg u (rotating_pair plan u access) it)
-      (rw (sized, verdict-named v.pairs access.at access.kind (IsShaped-rotated u (rotating_pair plan u access) it).regions) refl)
+    (rotate-named cfg u (rotating_pair plan u access) it)
+    (rw (sized, verdict-named v.pairs access.at access.kind (IsShaped-rotated u (rotating_pair plan u access) it).regions) refl)
 
 flush-named : (cfg : Config) (empties : Bool) → AreNamedLines cfg (flush_lines empties)
 flush-named cfg true = refl
@@ -187,10 +187,10 @@ box-named cfg f u c (Some b) it = by_part (slice_get cfg.boxes b.0) refl
     by_part (Some part) is =
         let plan : List Pair = plan_of cfg f.shared.owners b.0 part in
         named-append cfg (switch_lines u b ++ access_lines plan (entered cfg part u b) (touch_of cfg f c)) (flush_lines (empties_slots cfg f c))
-          (named-append cfg (switch_lines u b) (access_lines plan (entered cfg part u b) (touch_of cfg f c))
-            (switch-named cfg u b (lt-ltb b.0 (length cfg.boxes) (slice_get_within cfg.boxes b.0 part is)))
-            (access-named cfg plan (entered cfg part u b) (touch_of cfg f c) (IsShaped-entered cfg part u b it) (IsSized-touch_of cfg f c)))
-          (flush-named cfg (empties_slots cfg f c))
+        (named-append cfg (switch_lines u b) (access_lines plan (entered cfg part u b) (touch_of cfg f c))
+        (switch-named cfg u b (lt-ltb b.0 (length cfg.boxes) (slice_get_within cfg.boxes b.0 part is)))
+        (access-named cfg plan (entered cfg part u b) (touch_of cfg f c) (IsShaped-entered cfg part u b it) (IsSized-touch_of cfg f c)))
+        (flush-named cfg (empties_slots cfg f c))
 
 -- the unit's lines of any choice name what is there
 pub unit_lines-named : (cfg : Config) (f : Flat) (u : UnitState) (c : Choice) → IsShaped u → AreNamedLines cfg (unit_lines cfg f u c)
@@ -213,9 +213,9 @@ named-run cfg f u (c ∷ cs) all it fitting =
     let entry : List Logged = item.Core (record { choice = c; reply = reply_to cfg f c }) ∷ [] in
     let rest : List Logged = woven_items (lines_of_run cfg (state_after cfg f c) (unit_after cfg f u c) cs) (entries_of_run cfg (state_after cfg f c) cs) in
     named-items cfg (unit_lines cfg f u c) (item.Core (record { choice = c; reply = reply_to cfg f c }) ∷ rest)
-      (unit_lines-named cfg f u c it)
-      (rw (entry-named cfg f c all now.0)
-        (named-run cfg (state_after cfg f c) (unit_after cfg f u c) cs all (IsShaped-after cfg f u c it) now.1))
+    (unit_lines-named cfg f u c it)
+    (rw (entry-named cfg f c all now.0)
+    (named-run cfg (state_after cfg f c) (unit_after cfg f u c) cs all (IsShaped-after cfg f u c it) now.1))
 
 length-settled : (f : Flat) (t : ℕ) (out : Outcome) → length (settled f t out).0.threads ≡ length f.threads
 length-settled f t out = length-set f.threads t out.thread
@@ -264,15 +264,15 @@ weaker P Q each (x ∷ xs) all = (each x all.0, weaker P Q each xs all.1)
 sound-lines : (cfg : Config) → IsSound cfg → HasNamedLines cfg
 sound-lines cfg sound =
     weaker (IsBox cfg.board (common_range cfg.board cfg.boxes)) (λ part. HasLines part.irqs)
-      (λ part it. weaker (λ (irq : IrqPart). (irq.line.0 < 64) × (irq.handler < 65536)) (λ irq. irq.line.0 < LINES) (λ irq both. both.0) part.irqs it.lines)
-      cfg.boxes sound.boxes
+    (λ part it. weaker (λ (irq : IrqPart). (irq.line.0 < 64) × (irq.handler < 65536)) (λ irq. irq.line.0 < LINES) (λ irq both. both.0) part.irqs it.lines)
+    cfg.boxes sound.boxes
 
 -- a legal log over a sound configuration is named
 pub legal-named : (cfg : Config) (log : Log) → IsSound cfg → IsLegal cfg log → IsNamed cfg log
 unfolding log_of_choices
 legal-named cfg log sound legal = record {
   items = subst (λ items. list_all (is_named_item cfg) items ≡ true) (sym (ap (λ (l : Log). l.items) (legal-one_log cfg log legal)))
-    (named-run cfg (opening_state cfg) opening_unit (choices_of log.items) (sound-lines cfg sound) IsShaped-opening legal.flat.fitting);
+      (named-run cfg (opening_state cfg) opening_unit (choices_of log.items) (sound-lines cfg sound) IsShaped-opening legal.flat.fitting);
   ends = ap length legal.flat.ends ∙ length-map (state_after_all cfg (opening_state cfg) (choices_of log.items)).threads end_of_thread
-    ∙ length-state_after_all cfg (opening_state cfg) (choices_of log.items) ∙ length-opening cfg;
+      ∙ length-state_after_all cfg (opening_state cfg) (choices_of log.items) ∙ length-opening cfg;
 }

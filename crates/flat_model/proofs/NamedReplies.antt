@@ -105,7 +105,7 @@ drop-take-all (suc n) (x ∷ xs) zs short =
 named-frames : (k : ℕ) (xs : List ℕ) → AscendsFrom k xs → 1 ≤ length xs → length xs ≤ 16 → is_named_frames (frames_of xs) ≡ true
 named-frames k xs it some few =
     rw (le-leb 1 (length xs) some, le-leb (length xs) 16 few, take-take-all 16 xs (replicate 16 0) few, ascends-from k xs it, drop-take-all 16 xs (replicate 16 0) few)
-      (list_all-zeros (16 - length xs) 16)
+    (list_all-zeros (16 - length xs) 16)
 
 -- ---- the rows
 
@@ -113,7 +113,7 @@ given-turned : (board : Board) (home n : ℕ) (m : Shared) (th : ThreadState) (t
 given-turned board home n m th table heap some few enough =
     let long : length (take n (free_frames 0 m.owners)) ≡ n = length-take-le n (free_frames 0 m.owners) enough in
     named-frames 0 (take n (free_frames 0 m.owners)) (AscendsFrom-take n 0 (free_frames 0 m.owners) (AscendsFrom-free_frames 0 m.owners))
-      (omega (arith, long)) (omega (arith, long))
+    (omega (arith, long)) (omega (arith, long))
 
 given-or-none : (board : Board) (home n : ℕ) (m : Shared) (th : ThreadState) (table : ℕ) (heap : Option HeapPart) → 1 ≤ n → n ≤ 16 → IsTurned (pages_or_none_row board home m th table heap (least_free n m.owners))
 given-or-none board home n m th table None some few = refl
@@ -211,8 +211,8 @@ performed-turned board m th access Fetch = refl
 access-turned : (cfg : Config) (home : ℕ) (m : Shared) (th : ThreadState) (access : Access) → IsTurned (access_row cfg home m th access)
 access-turned cfg home m th access =
     either (is_aligned access.at access.size) _ _
-      (either (may_access cfg m.owners home access.at access.size access.kind) _ _ (performed-turned cfg.board m th access access.kind) refl)
-      refl
+    (either (may_access cfg m.owners home access.at access.size access.kind) _ _ (performed-turned cfg.board m th access access.kind) refl)
+    refl
 
 shared-turned : (cfg : Config) (who : Who) (part : BoxPart) (m : Shared) (th : ThreadState) (i : Instr) (access : Option Access) → who.room ≡ true → IsTurned (shared_row cfg who part m th i access)
 shared-turned cfg who part m th i None room = kernel-turned cfg who part m th i room
@@ -280,7 +280,7 @@ ready-turned cfg who part thread m th (Some irq) room line = lt-ltb irq.line.0 L
 acting-turned : (cfg : Config) (who : Who) (part : BoxPart) (thread : ThreadPart) (m : Shared) (th : ThreadState) → who.room ≡ true → HasLines part.irqs → IsTurned (acting_row cfg who part thread m th)
 acting-turned cfg who part thread m th room lines =
     either (is_waiting th.mode) _ _ (waiting-turned who m th th.awaited)
-      (ready-turned cfg who part thread m th (due_interrupt m.lines part who.home.0 who.thread.0) room (due-line m.lines part who.home.0 who.thread.0 lines))
+    (ready-turned cfg who part thread m th (due_interrupt m.lines part who.home.0 who.thread.0) room (due-line m.lines part who.home.0 who.thread.0 lines))
 
 -- the reply of a turn with room is one that such a turn has
 pub turn-turned : (cfg : Config) (who : Who) (part : BoxPart) (thread : ThreadPart) (m : Shared) (th : ThreadState) → who.room ≡ true → HasLines part.irqs → is_turn_reply (turn_row cfg who part thread m th).reply ≡ true

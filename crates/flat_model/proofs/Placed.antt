@@ -6,7 +6,7 @@ use Rattle.std.specs.List.{AllByRecursion, slice_get}
 use Rattle.std.proofs.lemmas.Bool.{and_parts, and_from, false_from_ne_true, false≢true, leb-true, ltb-true, le-leb, lt-ltb}
 use Rattle.addr_base.specs.declared.ranges.Range.{Range}
 use Rattle.addr_base.specs.declared.rights.Rights.{Rights}
-use Rattle.addr_base.specs.Range.{end_of, in_range}
+use Rattle.addr_base.specs.Range.{ADDRESS_END, end_of, in_range}
 use Rattle.addr_base.specs.Rights.{may_read}
 use Rattle.flat_model.specs.declared.boards.Board.{Board}
 use Rattle.flat_model.specs.declared.boards.HeapPart.{HeapPart}
@@ -80,7 +80,7 @@ IsOneBlock-from range power enough limit whole =
       whole = subst (λ n. range.base % n ≡ 0) power.1 whole;
     }
 
-IsPage-from : (page : ℕ) → IsPowerOfTwo page → 32 ≤ page → page ≤ 65536 → IsPage page
+pub IsPage-from : (page : ℕ) → IsPowerOfTwo page → 32 ≤ page → page ≤ 65536 → IsPage page
 IsPage-from page power low high =
     let more : 4 < power.0 = smaller 4 power.0 (omega (arith, power.1)) in
     let less : power.0 < 17 = smaller power.0 17 (omega (arith, power.1)) in
@@ -124,16 +124,16 @@ limit_from board (Some h) is it = record {
   heap_low = rw is refl;
 }
 
-reads_of : (rights : Rights) → sound.IsGrantRights rights → may_read rights ≡ true
+pub reads_of : (rights : Rights) → sound.IsGrantRights rights → may_read rights ≡ true
 reads_of rights (inl r) = ap may_read r
 reads_of rights (inr (inl rw_)) = ap may_read rw_
 reads_of rights (inr (inr (inl rx))) = ap may_read rx
 reads_of rights (inr (inr (inr all))) = ap may_read all
 
-IsTiled-from : (range : Range) → sound.IsTiledRange range → end_of range < 2 ^ 32 → IsTiled range
+pub IsTiled-from : (range : Range) → sound.IsTiledRange range → end_of range < 2 ^ 32 → IsTiled range
 IsTiled-from range it limit = record { base_whole = it.base; len_whole = it.len; limit = limit }
 
-IsGrouped-from : (sram : Range) (h : HeapPart) → sound.IsHeap sram h → IsGrouped h
+pub IsGrouped-from : (sram : Range) (h : HeapPart) → sound.IsHeap sram h → IsGrouped h
 IsGrouped-from sram h it =
     record { page_is = IsPage-from h.page it.power it.least_page it.greatest_page; groups = it.eights; whole = it.aligned }
 
@@ -181,11 +181,15 @@ module _ (cfg : Config) (sound_cfg : sound.IsSound cfg) (b : ℕ) (part : BoxPar
     | inr inside ↦ inr (in_outer g.range (common_range cfg.board cfg.boxes) a inside.0 inside.1 is)
   ]
 
-  grant_end : (g : Item) → sound.IsGrant cfg.board (common_range cfg.board cfg.boxes) g → end_of g.range < 2 ^ 32
-  grant_end g it = elim it.placed [
-    | inl inside ↦ omega (arith, inside.1, sound_cfg.board.peripherals_bank.ends)
+  pub grant_ends : (g : Item) → sound.IsGrant cfg.board (common_range cfg.board cfg.boxes) g → end_of g.range ≤ ADDRESS_END
+  grant_ends g it =
+    elim it.placed [
+      inl inside ↦ omega (arith, inside.1, sound_cfg.board.peripherals_bank.ends)
     | inr inside ↦ omega (arith, inside.1, common_end, limit.ends, sound_cfg.board.sram_bank.ends)
-  ]
+    ]
+
+  grant_end : (g : Item) → sound.IsGrant cfg.board (common_range cfg.board cfg.boxes) g → end_of g.range < 2 ^ 32
+  grant_end g it = omega (arith, grant_ends g it)
 
   -- an address that neither the peripherals nor the common part have is in no grant
   no_grant : (a : ℕ) → (in_range cfg.board.peripherals a ≡ true → ⊥) → (in_range (common_range cfg.board cfg.boxes) a ≡ true → ⊥) → AllByRecursion (λ g. in_range g.range a ≡ false) part.grants

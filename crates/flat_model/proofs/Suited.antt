@@ -65,7 +65,7 @@ in_heap-own_pages : (heap : Option HeapPart) (owners : List (Option BoxId)) (b a
 in_heap-own_pages None owners b a on = absurd (false≢true on)
 in_heap-own_pages (Some h) owners b a on = (and_parts (in_all_pages h a) _ on).0
 
-each_piece_off : (grants : List Item) (a : ℕ) → AllByRecursion (λ g. in_range g.range a ≡ false) grants → AllByRecursion (λ y. y.has a ≡ false) (map grant_piece grants)
+pub each_piece_off : (grants : List Item) (a : ℕ) → AllByRecursion (λ g. in_range g.range a ≡ false) grants → AllByRecursion (λ y. y.has a ≡ false) (map grant_piece grants)
 each_piece_off grants a each =
     each-map grant_piece (λ g. in_range g.range a ≡ false) (λ y. y.has a ≡ false) (λ g off. off) grants each
 
@@ -142,7 +142,7 @@ module _ (board : Board) (part : BoxPart) (owners : List (Option BoxId)) (b : �
       )
 
   -- each pair of the grants gives what is held
-  each_grant_pair : AllByRecursion (IsHonest (held_by (pieces_of board part owners b))) (grant_pairs part.grants)
+  pub each_grant_pair : AllByRecursion (IsHonest (held_by (pieces_of board part owners b))) (grant_pairs part.grants)
   each_grant_pair =
       each-flat_map (λ g. cover_of g.range g.rights)
       (λ g. IsTiledGrant g × ((a : ℕ) → in_range g.range a ≡ true → (kind : Kind) → held_by (pieces_of board part owners b) a kind ≡ gives g.rights kind))

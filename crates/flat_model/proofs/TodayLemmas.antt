@@ -20,13 +20,12 @@ pub program_today : (thread : ThreadPart) (place : ℕ) → thread_runs_today th
     runs_today (slice_get thread.program place) ≡ true
 program_today thread place all = by_get (slice_get thread.program place) refl
   where
-  by_get : (i : Option _) → slice_get thread.program place ≡ i → runs_today i ≡ true
-  by_get None at = refl
-  by_get (Some i) at = list_all-get is_run_today thread.program place i all at
+    by_get : (i : Option _) → slice_get thread.program place ≡ i → runs_today i ≡ true
+    by_get None at = refl
+    by_get (Some i) at = list_all-get is_run_today thread.program place i all at
 
 -- an instruction of a configuration that runs today runs today
 pub config_today : (cfg : Config) (t place : ℕ) (thread : ThreadPart) → RunsToday cfg →
     slice_get cfg.threads t ≡ Some thread → runs_today (slice_get thread.program place) ≡ true
 config_today cfg t place thread all at =
     program_today thread place (list_all-get thread_runs_today cfg.threads t thread all at)
-

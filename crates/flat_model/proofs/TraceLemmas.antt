@@ -69,7 +69,7 @@ all_fit-append cfg f [] ds first second = second
 all_fit-append cfg f (c ∷ cs) ds first second =
     let parts = and_parts (fits cfg f c) (all_fit cfg (state_after cfg f c) cs) first in
     and_from (fits cfg f c) (all_fit cfg (state_after cfg f c) (cs ++ ds)) parts.0
-        (all_fit-append cfg (state_after cfg f c) cs ds parts.1 second)
+    (all_fit-append cfg (state_after cfg f c) cs ds parts.1 second)
 
 flat_after : (cfg : Config) (w : World) (c : Choice) → (world_after cfg w c).flat ≡ state_after cfg w.flat c
 unfolding world_after
@@ -93,7 +93,7 @@ entries_of-trace cfg w [] = refl
 entries_of-trace cfg w (c ∷ cs) =
     entries_of-event cfg w c (trace_of cfg (world_after cfg w c) cs)
     ∙ ap (λ es. record { choice = c; reply = reply_to cfg w.flat c } ∷ es)
-        (entries_of-trace cfg (world_after cfg w c) cs ∙ ap (λ f. entries_of_run cfg f cs) (flat_after cfg w c))
+    (entries_of-trace cfg (world_after cfg w c) cs ∙ ap (λ f. entries_of_run cfg f cs) (flat_after cfg w c))
 
 replies_of-run : (cfg : Config) (f : Flat) (cs : List Choice) →
     map (λ (e : Entry). e.reply) (entries_of_run cfg f cs) ≡ replies_to_all cfg f cs
@@ -130,9 +130,9 @@ lines_of-trace cfg w [] = refl
 lines_of-trace cfg w (c ∷ cs) =
     ap (map (λ (event : Event). event.lines)) (events_of-event cfg w c (trace_of cfg (world_after cfg w c) cs))
     ∙ ap (λ ls. unit_lines cfg w.flat w.unit c ∷ ls)
-        (lines_of-trace cfg (world_after cfg w c) cs
-        ∙ ap (λ f. lines_of_run cfg f (world_after cfg w c).unit cs) (flat_after cfg w c)
-        ∙ ap (λ u. lines_of_run cfg (state_after cfg w.flat c) u cs) (unit_after_world cfg w c))
+    (lines_of-trace cfg (world_after cfg w c) cs
+    ∙ ap (λ f. lines_of_run cfg f (world_after cfg w c).unit cs) (flat_after cfg w c)
+    ∙ ap (λ u. lines_of_run cfg (state_after cfg w.flat c) u cs) (unit_after_world cfg w c))
 
 ends_with_entry-lines : (lines : List UnitLine) (e : Entry) (items : List Logged) →
     ends_with_entry items ≡ true → ends_with_entry (map item.Unit lines ++ item.Core e ∷ items) ≡ true
@@ -168,6 +168,6 @@ trace_of-woven cfg w [] = refl
 trace_of-woven cfg w (c ∷ cs) =
     event_items-woven cfg w c (trace_of cfg (world_after cfg w c) cs)
     ∙ ap (λ items. map item.Unit (unit_lines cfg w.flat w.unit c) ++ item.Core (record { choice = c; reply = reply_to cfg w.flat c }) ∷ items)
-        (trace_of-woven cfg (world_after cfg w c) cs
-        ∙ ap (λ f. woven_items (lines_of_run cfg f (world_after cfg w c).unit cs) (entries_of_run cfg f cs)) (flat_after cfg w c)
-        ∙ ap (λ u. woven_items (lines_of_run cfg (state_after cfg w.flat c) u cs) (entries_of_run cfg (state_after cfg w.flat c) cs)) (unit_after_world cfg w c))
+    (trace_of-woven cfg (world_after cfg w c) cs
+    ∙ ap (λ f. woven_items (lines_of_run cfg f (world_after cfg w c).unit cs) (entries_of_run cfg f cs)) (flat_after cfg w c)
+    ∙ ap (λ u. woven_items (lines_of_run cfg (state_after cfg w.flat c) u cs) (entries_of_run cfg (state_after cfg w.flat c) cs)) (unit_after_world cfg w c))

@@ -39,14 +39,14 @@ want-instruction cfg part thread m t (Some (instr.RpcSync n looks)) today = cc
 want-instruction cfg part thread m t (Some instr.RpcTake) today = cc
 want-instruction cfg part thread m t (Some _) today = refl
 
-next-today : (part : BoxPart) (thread : ThreadPart) (m : Shared) (th : ThreadState) (t : ℕ) →
+pub next-today : (part : BoxPart) (thread : ThreadPart) (m : Shared) (th : ThreadState) (t : ℕ) →
     thread_runs_today thread ≡ true → runs_today (next_instruction part thread m th t) ≡ true
 next-today part thread m th t today =
     by_test (is_ready th.mode && is_none (due_interrupt m.lines part thread.home.0 t))
   where
-  by_test : (b : Bool) → runs_today (cond b (slice_get thread.program th.pc) None) ≡ true
-  by_test true = program_today thread th.pc today
-  by_test false = refl
+    by_test : (b : Bool) → runs_today (cond b (slice_get thread.program th.pc) None) ≡ true
+    by_test true = program_today thread th.pc today
+    by_test false = refl
 
 want-in : (cfg : Config) (m : Shared) (t : ℕ) (thread : ThreadPart) (th : ThreadState) (part : Option BoxPart) →
     thread_runs_today thread ≡ true → want_in cfg m t thread th part ≡ want.Plain
@@ -65,7 +65,7 @@ want-at cfg m t (Some thread) (Some th) today =
 pub want-today : (cfg : Config) (f : Flat) (t : ℕ) → RunsToday cfg → want_of cfg f t ≡ want.Plain
 want-today cfg f t today =
     want-at cfg f.shared t (slice_get cfg.threads t) (slice_get f.threads t)
-        (λ x at. list_all-get thread_runs_today cfg.threads t x today at)
+    (λ x at. list_all-get thread_runs_today cfg.threads t x today at)
 
 -- what a thread's word stands for
 pub choice-today : (cfg : Config) (f : Flat) (t : ThreadId) → RunsToday cfg → choice_of_thread cfg f t ≡ choice.Turn t true
@@ -92,7 +92,7 @@ turn-by cfg f t true is = refl
 turn-by cfg f t false is =
     let past : length cfg.threads ≤ t.0 = grind (arith, nat_tests) in
     sym (ap (λ thread. turn_at cfg f t true thread (slice_get f.threads t.0)) (slice_get_past cfg.threads t.0 past)
-        ∙ turn-none cfg f t true (slice_get f.threads t.0))
+    ∙ turn-none cfg f t true (slice_get f.threads t.0))
 
 -- the step of a turn with room
 pub step-turn : (cfg : Config) (f : Flat) (t : ThreadId) → RunsToday cfg →
@@ -108,9 +108,9 @@ pub step-full : (cfg : Config) (f : Flat) (t : ThreadId) → RunsToday cfg →
 unfolding step
 step-full cfg f t today = rw (want-today cfg f t.0 today) (unfit (is_thread cfg t))
   where
-  unfit : (b : Bool) → cond (b && false) (fitting_step cfg f (choice.Turn t false)) (f, reply.Ended) ≡ (f, reply.Ended)
-  unfit true = refl
-  unfit false = refl
+    unfit : (b : Bool) → cond (b && false) (fitting_step cfg f (choice.Turn t false)) (f, reply.Ended) ≡ (f, reply.Ended)
+    unfit true = refl
+    unfit false = refl
 
 -- no start fits
 pub step-start : (cfg : Config) (f : Flat) (t : ThreadId) (ticket : Ticket) → RunsToday cfg →
@@ -118,9 +118,9 @@ pub step-start : (cfg : Config) (f : Flat) (t : ThreadId) (ticket : Ticket) → 
 unfolding step
 step-start cfg f t ticket today = rw (want-today cfg f t.0 today) (unfit (is_thread cfg t && is_thread cfg ticket.thread))
   where
-  unfit : (b : Bool) → cond (b && false) (fitting_step cfg f (choice.Start t ticket)) (f, reply.Ended) ≡ (f, reply.Ended)
-  unfit true = refl
-  unfit false = refl
+    unfit : (b : Bool) → cond (b && false) (fitting_step cfg f (choice.Start t ticket)) (f, reply.Ended) ≡ (f, reply.Ended)
+    unfit true = refl
+    unfit false = refl
 
 -- no idle look fits
 pub step-idle : (cfg : Config) (f : Flat) (t : ThreadId) → RunsToday cfg →
@@ -128,9 +128,9 @@ pub step-idle : (cfg : Config) (f : Flat) (t : ThreadId) → RunsToday cfg →
 unfolding step
 step-idle cfg f t today = rw (want-today cfg f t.0 today) (unfit (is_thread cfg t))
   where
-  unfit : (b : Bool) → cond (b && false) (fitting_step cfg f (choice.Idle t)) (f, reply.Ended) ≡ (f, reply.Ended)
-  unfit true = refl
-  unfit false = refl
+    unfit : (b : Bool) → cond (b && false) (fitting_step cfg f (choice.Idle t)) (f, reply.Ended) ≡ (f, reply.Ended)
+    unfit true = refl
+    unfit false = refl
 
 -- the step of a ring of a line that a box owns
 pub step-ring : (cfg : Config) (f : Flat) (line : Line) (by : ℕ) → is_owned_line cfg line.0 ≡ true →

@@ -46,10 +46,10 @@ load_row board m th access =
 -- the low bytes of the register go to the address
 abbrev pub store_row : Board → Shared → ThreadState → Access → Outcome
 store_row board m th access = record {
-    shared = record m { memory = put_word board m.memory access.at access.size (register th access.register) };
-    thread = moved th;
-    reply = reply.Done;
-  }
+  shared = record m { memory = put_word board m.memory access.at access.size (register th access.register) };
+  thread = moved th;
+  reply = reply.Done;
+}
 
 -- a fetch does nothing else
 abbrev pub fetch_row : Shared → ThreadState → Outcome
@@ -72,6 +72,6 @@ abbrev pub access_row : Config → ℕ → Shared → ThreadState → Access →
 access_row cfg home m th access =
     if is_aligned access.at access.size
     then (if may_access cfg m.owners home access.at access.size access.kind
-          then performed_row cfg.board m th access access.kind
-          else fault_row m th (violation_of access.kind) access.at)
+    then performed_row cfg.board m th access access.kind
+    else fault_row m th (violation_of access.kind) access.at)
     else fault_row m th flaw.Unaligned access.at

@@ -30,13 +30,13 @@ use Rattle.flat_model.specs.Thread.{posted, posted_and_waiting, register, resume
 -- the frames go to the box, their pages are zeroed, and then the table is written
 abbrev pub given_row : Board → ℕ → Shared → ThreadState → ℕ → HeapPart → List ℕ → Outcome
 given_row board home m th table heap frames = record {
-    shared = record m {
-      memory = put_cells board m.memory (blank_pages heap frames ++ table_cells heap table frames);
-      owners = with_owner (Some (record { 0 = home })) frames m.owners;
-    };
-    thread = with_status th 0;
-    reply = reply.Given (frames_of frames);
-  }
+  shared = record m {
+    memory = put_cells board m.memory (blank_pages heap frames ++ table_cells heap table frames);
+    owners = with_owner (Some (record { 0 = home })) frames m.owners;
+  };
+  thread = with_status th 0;
+  reply = reply.Given (frames_of frames);
+}
 
 -- out of pages where there are not enough, or no heap at all
 abbrev pub pages_or_none_row : Board → ℕ → Shared → ThreadState → ℕ → Option HeapPart → Option (List ℕ) → Outcome
@@ -69,10 +69,10 @@ irq_enable_row m th irqs line on =
 -- `irq_return` of thread 0 in its handler, or elsewhere
 abbrev pub irq_return_row : ℕ → Shared → ThreadState → Bool → Option Context → Outcome
 irq_return_row home m th true (Some context) = record {
-    shared = record m { lines = record m.lines { saved = slice_set m.lines.saved home None } };
-    thread = resumed th context;
-    reply = reply.Done;
-  }
+  shared = record m { lines = record m.lines { saved = slice_set m.lines.saved home None } };
+  thread = resumed th context;
+  reply = reply.Done;
+}
 irq_return_row home m th _ _ = refused_row m th 9
 
 -- whether bit b is set in a set of boxes
@@ -133,12 +133,12 @@ gateway_for home (Some gate) = if has_box gate.callers home then Some gate else 
 -- the thread's next call by a gateway, with its registers r0 to r3
 abbrev pub call_by : Who → ThreadState → RpcGate → Call
 call_by who th gate = record {
-    ticket = record { thread = who.thread; seq = th.count + 1 };
-    target = gate.target;
-    function = gate.function;
-    args = take 4 th.regs;
-    state = state.Posted;
-  }
+  ticket = record { thread = who.thread; seq = th.count + 1 };
+  target = gate.target;
+  function = gate.function;
+  args = take 4 th.regs;
+  state = state.Posted;
+}
 
 -- `rpc_call` and `rpc_sync`: not allowed, full, or posted with this thread after it
 abbrev pub rpc_post_row : Who → Shared → ThreadState → ThreadState → Option RpcGate → Outcome
@@ -165,6 +165,6 @@ abbrev pub rpc_result_row : Shared → ThreadState → ℕ → Ticket → Option
 rpc_result_row m th r ticket None = refused_row m th 4
 rpc_result_row m th r ticket (Some call) = rpc_done_row (done_value call.state)
   where
-  rpc_done_row : Option ℕ → Outcome
-  rpc_done_row None = refused_row m th 1
-  rpc_done_row (Some value) = value_row (record m { calls = with_collected ticket m.calls }) th r value
+    rpc_done_row : Option ℕ → Outcome
+    rpc_done_row None = refused_row m th 1
+    rpc_done_row (Some value) = value_row (record m { calls = with_collected ticket m.calls }) th r value

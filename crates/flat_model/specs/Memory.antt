@@ -41,10 +41,10 @@ put_word board memory a n value = put_cells board memory (cells_of a n value)
 -- memory of zero bytes
 abbrev pub blank_memory : Board → Memory
 blank_memory board = record {
-    flash = replicate board.flash.len 0;
-    sram = replicate board.sram.len 0;
-    peripherals = replicate board.peripherals.len 0;
-  }
+  flash = replicate board.flash.len 0;
+  sram = replicate board.sram.len 0;
+  peripherals = replicate board.peripherals.len 0;
+}
 
 -- memory with the board's words written in order
 abbrev pub with_words : Board → Memory → List Word → Memory

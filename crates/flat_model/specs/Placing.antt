@@ -11,9 +11,9 @@ use Rattle.flat_model.specs.declared.parts.BoxPart.{BoxPart}
 abbrev pub limit_of : Board → ℕ
 limit_of board = limit_before board.heap
   where
-  limit_before : Option HeapPart → ℕ
-  limit_before None = end_of board.sram
-  limit_before (Some heap) = heap.base
+    limit_before : Option HeapPart → ℕ
+    limit_before None = end_of board.sram
+    limit_before (Some heap) = heap.base
 
 -- own memory that begins at the least multiple of its length not below an address
 pub record IsOwnAfter (start : ℕ) (own : Range) : Type 0 where
@@ -36,6 +36,6 @@ placed_end start (part ∷ parts) = placed_end (end_of part.own) parts
 -- the common part of SRAM: from the end of the last own memory to the limit
 abbrev pub common_range : Board → List BoxPart → Range
 common_range board parts = record {
-    base = placed_end board.sram.base parts;
-    len = limit_of board - placed_end board.sram.base parts;
-  }
+  base = placed_end board.sram.base parts;
+  len = limit_of board - placed_end board.sram.base parts;
+}

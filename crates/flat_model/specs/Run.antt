@@ -18,19 +18,19 @@ LINES = 64
 -- the state at the start: the board's words, zero elsewhere, no page with an owner, no call, no line latched or enabled
 unfoldable pub opening_state : Config → Flat
 opening_state cfg = record {
-    shared = record {
-      memory = opening_memory cfg.board;
-      owners = replicate (option_map_or (λ heap. heap.count) cfg.board.heap 0) None;
-      calls = [];
-      serving = replicate (length cfg.boxes) None;
-      lines = record {
-        latched = replicate LINES false;
-        enabled = replicate LINES false;
-        saved = replicate (length cfg.boxes) None;
-      };
+  shared = record {
+    memory = opening_memory cfg.board;
+    owners = replicate (option_map_or (λ heap. heap.count) cfg.board.heap 0) None;
+    calls = [];
+    serving = replicate (length cfg.boxes) None;
+    lines = record {
+      latched = replicate LINES false;
+      enabled = replicate LINES false;
+      saved = replicate (length cfg.boxes) None;
     };
-    threads = replicate (length cfg.threads) opening_thread;
-  }
+  };
+  threads = replicate (length cfg.threads) opening_thread;
+}
 
 -- the state after choices, from a state on
 abbrev pub state_after_all : Config → Flat → List Choice → Flat

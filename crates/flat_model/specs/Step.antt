@@ -108,13 +108,14 @@ abbrev pub instruction_in : Flat → ℕ → ThreadPart → ThreadState → Opti
 instruction_in f t thread th None = None
 instruction_in f t thread th (Some part) = next_instruction part thread f.shared th t
 
+-- the access that an instruction of a thread decides, if it decides one
+abbrev pub touch_by : ThreadState → Option Instr → Option Access
+touch_by th None = None
+touch_by th (Some i) = aligned_access (access_of th i)
+
 -- the access that a turn of a thread decides, if it decides one
 abbrev pub touch_at : Config → Flat → ℕ → Option ThreadPart → Option ThreadState → Option Access
 touch_at cfg f t (Some thread) (Some th) = touch_by th (instruction_in f t thread th (slice_get cfg.boxes thread.home.0))
-  where
-  touch_by : ThreadState → Option Instr → Option Access
-  touch_by th None = None
-  touch_by th (Some i) = aligned_access (access_of th i)
 touch_at cfg f t _ _ = None
 
 -- the aligned access that a choice decides for a load, a store or a fetch, if it decides one

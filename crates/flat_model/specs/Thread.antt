@@ -46,12 +46,12 @@ faulted th = record th { mode = mode.Faulted }
 abbrev pub has_ended : ThreadState → Bool
 has_ended th = is_ended th.mode
   where
-  is_ended : Mode → Bool
-  is_ended mode.Ready = false
-  is_ended mode.Waiting = false
-  is_ended mode.Halted = true
-  is_ended mode.Faulted = true
-  is_ended mode.Spent = true
+    is_ended : Mode → Bool
+    is_ended mode.Ready = false
+    is_ended mode.Waiting = false
+    is_ended mode.Halted = true
+    is_ended mode.Faulted = true
+    is_ended mode.Spent = true
 
 -- whether the thread waits for a call
 abbrev pub is_waiting : Mode → Bool
@@ -116,13 +116,13 @@ posted_and_waiting th looks =
 abbrev pub started_registers : List ℕ → Started → List ℕ
 started_registers regs started =
     slice_set (slice_set (slice_set (slice_set (slice_set (slice_set (slice_set regs
-        0 (slice_index started.args 0))
-        1 (slice_index started.args 1))
-        2 (slice_index started.args 2))
-        3 (slice_index started.args 3))
-        4 started.function)
-        5 started.caller.0)
-        7 0
+    0 (slice_index started.args 0))
+    1 (slice_index started.args 1))
+    2 (slice_index started.args 2))
+    3 (slice_index started.args 3))
+    4 started.function)
+    5 started.caller.0)
+    7 0
 
 -- the server after it started a call
 abbrev pub begun : ThreadState → Started → ThreadState
@@ -131,10 +131,10 @@ begun th started = moved (record th { regs = started_registers th.regs started }
 -- a thread as it is at the start
 abbrev pub opening_thread : ThreadState
 opening_thread = record {
-    pc = 0;
-    regs = 0 ∷ 0 ∷ 0 ∷ 0 ∷ 0 ∷ 0 ∷ 0 ∷ 0 ∷ [];
-    mode = mode.Ready;
-    steps = 0;
-    count = 0;
-    awaited = None;
-  }
+  pc = 0;
+  regs = 0 ∷ 0 ∷ 0 ∷ 0 ∷ 0 ∷ 0 ∷ 0 ∷ 0 ∷ [];
+  mode = mode.Ready;
+  steps = 0;
+  count = 0;
+  awaited = None;
+}

@@ -46,6 +46,6 @@ world_reached cfg items = world_after_all cfg (opening_world cfg) (choices_of it
 -- the log of these choices
 abbrev pub log_of : Config → List Choice → Log
 log_of cfg cs = record {
-    items = trace_of cfg (opening_world cfg) cs;
-    ends = ends_of (world_after_all cfg (opening_world cfg) cs).flat;
-  }
+  items = trace_of cfg (opening_world cfg) cs;
+  ends = ends_of (world_after_all cfg (opening_world cfg) cs).flat;
+}

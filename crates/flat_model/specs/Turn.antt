@@ -81,10 +81,10 @@ instruction_row cfg who part m th (Some i) = own_or_shared_row cfg who part m th
 -- a look for a call's result, which is there or not yet
 abbrev pub look_row : Who → Shared → ThreadState → Awaited → Option ℕ → Outcome
 look_row who m th awaited (Some value) = record {
-    shared = record m { calls = with_collected (own_ticket who awaited.seq) m.calls };
-    thread = woken th value;
-    reply = reply.Value value;
-  }
+  shared = record m { calls = with_collected (own_ticket who awaited.seq) m.calls };
+  thread = woken th value;
+  reply = reply.Value value;
+}
 look_row who m th awaited None =
     if nat_eq (awaited.looks - 1) 0
     then record { shared = m; thread = timed_out th awaited.seq; reply = reply.Status 1 }
@@ -103,15 +103,15 @@ waiting_row who m th (Some awaited) = look_row who m th awaited (result_of (open
 -- the delivery of an interrupt: its latch is cleared, place and registers are saved, the handler is next
 abbrev pub delivery_row : ℕ → Shared → ThreadState → IrqPart → Outcome
 delivery_row home m th irq = record {
-    shared = record m {
-      lines = record m.lines {
-        latched = slice_set m.lines.latched irq.line.0 false;
-        saved = slice_set m.lines.saved home (Some (context_of th));
-      };
+  shared = record m {
+    lines = record m.lines {
+      latched = slice_set m.lines.latched irq.line.0 false;
+      saved = slice_set m.lines.saved home (Some (context_of th));
     };
-    thread = interrupted th irq.line.0 irq.handler;
-    reply = reply.Irq irq.line;
-  }
+  };
+  thread = interrupted th irq.line.0 irq.handler;
+  reply = reply.Irq irq.line;
+}
 
 -- a turn of a thread that is ready: the interrupt that is due, or the instruction at its place
 abbrev pub ready_row : Config → Who → BoxPart → ThreadPart → Shared → ThreadState → Option IrqPart → Outcome

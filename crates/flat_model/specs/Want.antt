@@ -55,8 +55,8 @@ abbrev pub want_of_instruction : Config → BoxPart → ThreadPart → Shared �
 want_of_instruction cfg part thread m t None = want.Plain
 want_of_instruction cfg part thread m t (Some i) =
     want_for cfg thread
-      (takes_a_call i && nat_eq t part.server.0 && is_none (served_ticket m thread.home.0))
-      (called_gateway i)
+    (takes_a_call i && nat_eq t part.server.0 && is_none (served_ticket m thread.home.0))
+    (called_gateway i)
 
 -- what a thread of a box wants
 abbrev pub want_in : Config → Shared → ℕ → ThreadPart → ThreadState → Option BoxPart → Want

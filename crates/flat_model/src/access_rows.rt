@@ -44,10 +44,8 @@ pub fn access_of(thread: &ThreadState, instr: Instr) -> Option<Access>
 
 // A fault: no register and nothing shared changes.
 pub(crate) fn fault_row(shared: &mut Shared, thread: &mut ThreadState, why: Flaw, at: u32) -> Reply
-    ensures {
-        outcome.fault_row shared.old thread.old why at
-            ≡ record { shared = shared.new; thread = thread.new; reply = result }
-    }
+    ensures { outcome.fault_row shared.old thread.old why at
+        ≡ record { shared = shared.new; thread = thread.new; reply = result } }
 {
     let _ = &shared;
     thread.mode = Mode::Faulted;
@@ -57,10 +55,8 @@ pub(crate) fn fault_row(shared: &mut Shared, thread: &mut ThreadState, why: Flaw
 // The bytes at the address go into the register.
 fn load_row(board: &Board, shared: &Shared, thread: &mut ThreadState, access: Access) -> Reply
     requires { access.size ≤ 4 }
-    ensures {
-        spec.load_row board.now shared.now thread.old access
-            ≡ record { shared = shared.now; thread = thread.new; reply = result }
-    }
+    ensures { spec.load_row board.now shared.now thread.old access
+        ≡ record { shared = shared.now; thread = thread.new; reply = result } }
 {
     let value = word_at(board, &shared.memory, access.at as u64, access.size);
     set_register(thread, access.register, value);
@@ -70,23 +66,25 @@ fn load_row(board: &Board, shared: &Shared, thread: &mut ThreadState, access: Ac
 
 // The low bytes of the register go to the address.
 fn store_row(board: &Board, shared: &mut Shared, thread: &mut ThreadState, access: Access) -> Reply
-    ensures {
-        spec.store_row board.now shared.old thread.old access
-            ≡ record { shared = shared.new; thread = thread.new; reply = result }
-    }
+    ensures { spec.store_row board.now shared.old thread.old access
+        ≡ record { shared = shared.new; thread = thread.new; reply = result } }
 {
     let value = register(thread, access.register);
-    put_word(board, &mut shared.memory, access.at as u64, access.size, value);
+    put_word(
+        board,
+        &mut shared.memory,
+        access.at as u64,
+        access.size,
+        value,
+    );
     move_on(thread);
     Reply::Done
 }
 
 // A fetch does nothing else.
 fn fetch_row(shared: &Shared, thread: &mut ThreadState) -> Reply
-    ensures {
-        spec.fetch_row shared.now thread.old
-            ≡ record { shared = shared.now; thread = thread.new; reply = result }
-    }
+    ensures { spec.fetch_row shared.now thread.old
+        ≡ record { shared = shared.now; thread = thread.new; reply = result } }
 {
     let _ = shared;
     move_on(thread);
@@ -94,12 +92,15 @@ fn fetch_row(shared: &Shared, thread: &mut ThreadState) -> Reply
 }
 
 // Carries out an access.
-fn performed_row(board: &Board, shared: &mut Shared, thread: &mut ThreadState, access: Access) -> Reply
+fn performed_row(
+    board: &Board,
+    shared: &mut Shared,
+    thread: &mut ThreadState,
+    access: Access,
+) -> Reply
     requires { access.size ≤ 4 }
-    ensures {
-        spec.performed_row board.now shared.old thread.old access access.kind
-            ≡ record { shared = shared.new; thread = thread.new; reply = result }
-    }
+    ensures { spec.performed_row board.now shared.old thread.old access access.kind
+        ≡ record { shared = shared.new; thread = thread.new; reply = result } }
 {
     match access.kind {
         Kind::Read => load_row(board, shared, thread, access),
@@ -128,16 +129,21 @@ pub(crate) fn access_row(
 ) -> Reply
     requires some { 0 < access.size }
     requires small { access.size ≤ 4 }
-    ensures {
-        spec.access_row cfg.now home.0 shared.old thread.old access
-            ≡ record { shared = shared.new; thread = thread.new; reply = result }
-    }
+    ensures { spec.access_row cfg.now home.0 shared.old thread.old access
+        ≡ record { shared = shared.new; thread = thread.new; reply = result } }
 {
     let at = access.at as u64;
     if !is_aligned(at, access.size) {
         return fault_row(shared, thread, Flaw::Unaligned, access.at);
     }
-    if may_access(cfg, shared.owners.as_slice(), home.0, at, access.size, access.kind) {
+    if may_access(
+        cfg,
+        shared.owners.as_slice(),
+        home.0,
+        at,
+        access.size,
+        access.kind,
+    ) {
         performed_row(&cfg.board, shared, thread, access)
     } else {
         fault_row(shared, thread, violation_of(access.kind), access.at)

@@ -32,7 +32,10 @@ pub(crate) fn byte_at(board: &Board, memory: &Memory, a: u64) -> u8
     } else if has(&board.sram, a) {
         byte_in(&memory.sram, (a - board.sram.base as u64) as usize)
     } else if has(&board.peripherals, a) {
-        byte_in(&memory.peripherals, (a - board.peripherals.base as u64) as usize)
+        byte_in(
+            &memory.peripherals,
+            (a - board.peripherals.base as u64) as usize,
+        )
     } else {
         0
     }
@@ -44,11 +47,17 @@ pub(crate) fn put_byte(board: &Board, memory: &mut Memory, a: u64, value: u8)
     ensures { memory.new ≡ spec.put_byte board.now memory.old (record { at = a; value = value }) }
 {
     if has(&board.flash, a) {
-        memory.flash.put((a - board.flash.base as u64) as usize, value);
+        memory
+            .flash
+            .put((a - board.flash.base as u64) as usize, value);
     } else if has(&board.sram, a) {
-        memory.sram.put((a - board.sram.base as u64) as usize, value);
+        memory
+            .sram
+            .put((a - board.sram.base as u64) as usize, value);
     } else if has(&board.peripherals, a) {
-        memory.peripherals.put((a - board.peripherals.base as u64) as usize, value);
+        memory
+            .peripherals
+            .put((a - board.peripherals.base as u64) as usize, value);
     }
 }
 

@@ -52,7 +52,12 @@ fn lowest_pending(lines: &Lines, irqs: &[IrqPart]) -> Option<IrqPart>
 fn saved_context(lines: &Lines, home: BoxId) -> Option<Context>
     ensures { result ≡ spec.saved_context lines.now home.0 }
 {
-    lines.saved.as_slice().get(home.0 as usize).copied().unwrap_or(None)
+    lines
+        .saved
+        .as_slice()
+        .get(home.0 as usize)
+        .copied()
+        .unwrap_or(None)
 }
 
 /// The interrupt that is due to a ready thread of the box.
@@ -78,12 +83,13 @@ pub(crate) fn delivery_row(
     thread: &mut ThreadState,
     irq: IrqPart,
 ) -> Reply
-    ensures {
-        turn_words.delivery_row home.0 shared.old thread.old irq
-            ≡ record { shared = shared.new; thread = thread.new; reply = result }
-    }
+    ensures { turn_words.delivery_row home.0 shared.old thread.old irq
+        ≡ record { shared = shared.new; thread = thread.new; reply = result } }
 {
-    let context = Context { pc: thread.pc, regs: thread.regs };
+    let context = Context {
+        pc: thread.pc,
+        regs: thread.regs,
+    };
     shared.lines.latched.put(irq.line.0 as usize, false);
     shared.lines.saved.put(home.0 as usize, Some(context));
     set_register(thread, 0, irq.line.0 as u32);

@@ -1,8 +1,8 @@
 //! The data types of a firmware's boxes, and the definitions of what a run of them is.
 #![tactic(auto)]
 
-mod access_rule;
 mod access_rows;
+mod access_rule;
 mod accesses;
 mod actors;
 mod banks;
@@ -24,6 +24,7 @@ mod touch;
 mod turn;
 mod waiting;
 
+pub use access_rows::access_of;
 pub use accesses::Access;
 pub use actors::Who;
 pub use addr_base::{
@@ -35,7 +36,6 @@ pub use events::{
     Choice, Collected, Drive, Entry, Flaw, Frames, Logged, Mode, Noted, Reply, Started, UnitLine,
     Want,
 };
-pub use access_rows::access_of;
 pub use flat_state::{FlatState, flat_step};
 pub use instructions::{AssembleErr, BadLine, Instr, Why};
 pub use lists::{Items, Text};
@@ -46,7 +46,7 @@ pub use parts::{
 };
 pub use refusals::{ConfigErr, Key, NotNext, PageErr, Refused, Spot};
 pub use states::{Awaited, Call, CallState, Context, Flat, Lines, Memory, Shared, ThreadState};
-pub use touch::touch_at;
-pub use turn::has_ended;
 pub use step::{is_owned_line, program_of, ring, thread_of, turn_at};
 pub use texts::{BoxText, GateTexts, GrantText, RegText, Round, RpcText, ThreadText};
+pub use touch::touch_at;
+pub use turn::has_ended;

@@ -35,6 +35,13 @@ impl<T> Items<T> {
         items
     }
 
+    /// The vector that the list was made from.
+    pub fn as_vec(&self) -> &Vec<T>
+        ensures { result.now.items ≡ self.now }
+    {
+        &self.items
+    }
+
     /// The elements in order.
     pub fn as_slice(&self) -> &[T]
         ensures { result.now ≡ self.now }

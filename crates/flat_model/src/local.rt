@@ -95,11 +95,9 @@ fn halt_row(thread: &mut ThreadState) -> Reply
 
 /// What an instruction does that reads and changes one thread alone, if it is one.
 pub(crate) fn local_row(thread: &mut ThreadState, home: BoxId, instr: Instr) -> Option<Reply>
-    ensures {
-        MatchOption result
-            ((thread.new ≡ thread.old) × (spec.local_row thread.old home.0 instr ≡ None))
-            (λ reply. spec.local_row thread.old home.0 instr ≡ Some (thread.new, reply))
-    }
+    ensures { MatchOption result
+        ((thread.new ≡ thread.old) × (spec.local_row thread.old home.0 instr ≡ None))
+        (λ reply. spec.local_row thread.old home.0 instr ≡ Some (thread.new, reply)) }
 {
     let reply = match instr {
         Instr::Set(d, w) => assigned_row(thread, d, w),

@@ -35,7 +35,11 @@ fn blank_memory(alloc: Global, board: &Board) -> Result<Memory, OutOfMemory>
     let flash = filled(alloc, 0, board.flash.len as usize)?;
     let sram = filled(alloc, 0, board.sram.len as usize)?;
     let peripherals = filled(alloc, 0, board.peripherals.len as usize)?;
-    Ok(Memory { flash, sram, peripherals })
+    Ok(Memory {
+        flash,
+        sram,
+        peripherals,
+    })
 }
 
 // Writes the words that are there from the start.
@@ -82,18 +86,20 @@ fn opening_thread() -> ThreadState
 
 // The interrupt lines of so many boxes as they are at the start.
 fn opening_lines(alloc: Global, boxes: usize) -> Result<Lines, OutOfMemory>
-    ensures {
-        IfOk result (λ lines. lines ≡ record {
-            latched = replicate 64 false;
-            enabled = replicate 64 false;
-            saved = replicate boxes None;
-        })
-    }
+    ensures { IfOk result (λ lines. lines ≡ record {
+      latched = replicate 64 false;
+      enabled = replicate 64 false;
+      saved = replicate boxes None;
+    }) }
 {
     let latched = filled(alloc, false, LINES)?;
     let enabled = filled(alloc, false, LINES)?;
     let saved = filled(alloc, None, boxes)?;
-    Ok(Lines { latched, enabled, saved })
+    Ok(Lines {
+        latched,
+        enabled,
+        saved,
+    })
 }
 
 /// The flat machine as it is at the start.
@@ -107,6 +113,12 @@ pub fn opening_state(alloc: Global, cfg: &Config) -> Result<Flat, OutOfMemory>
     let serving = filled(alloc, None, cfg.boxes.len())?;
     let lines = opening_lines(alloc, cfg.boxes.len())?;
     let threads = filled(alloc, opening_thread(), cfg.threads.len())?;
-    let shared = Shared { memory, owners, calls, serving, lines };
+    let shared = Shared {
+        memory,
+        owners,
+        calls,
+        serving,
+        lines,
+    };
     Ok(Flat { shared, threads })
 }

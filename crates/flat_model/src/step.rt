@@ -25,16 +25,18 @@ fn turn_in(
 ) -> Reply
     requires today { runs_today (slice_get program.now.program thread.pc) ≡ true }
     requires steps { CanStep thread }
-    ensures {
-        spec.turn_in cfg.now flat.old t room program.now thread
-            (slice_get cfg.now.boxes program.now.home.0)
-            ≡ (flat.new, result)
-    }
+    ensures { spec.turn_in cfg.now flat.old t room program.now thread
+        (slice_get cfg.now.boxes program.now.home.0)
+        ≡ (flat.new, result) }
 {
     let Some(part) = cfg.boxes.as_slice().get(program.home.0 as usize) else {
         return Reply::Ended;
     };
-    let who = Who { home: program.home, thread: t, room };
+    let who = Who {
+        home: program.home,
+        thread: t,
+        room,
+    };
     let mut thread = thread;
     let reply = turn_row(cfg, who, part, program, &mut flat.shared, &mut thread);
     flat.threads.put(t.0 as usize, thread);
@@ -59,11 +61,9 @@ pub fn thread_of(flat: &Flat, t: ThreadId) -> Option<ThreadState>
 pub fn turn_at(cfg: &Config, flat: &mut Flat, t: ThreadId, room: bool) -> Reply
     requires today { RunsToday cfg.now }
     requires steps { ForSome (slice_get flat.old.threads t.0) CanStep }
-    ensures {
-        spec.turn_at cfg.now flat.old t room
-            (slice_get cfg.now.threads t.0) (slice_get flat.old.threads t.0)
-            ≡ (flat.new, result)
-    }
+    ensures { spec.turn_at cfg.now flat.old t room
+        (slice_get cfg.now.threads t.0) (slice_get flat.old.threads t.0)
+        ≡ (flat.new, result) }
 {
     let Some(program) = program_of(cfg, t) else {
         return Reply::Ended;
@@ -85,7 +85,9 @@ fn has_line(line: Line, irqs: &[IrqPart]) -> bool
 fn some_has_line(line: Line, boxes: &[BoxPart]) -> bool
     ensures { result ≡ list_any (λ part. interrupts.has_line line.0 part.irqs) boxes.now }
 {
-    boxes.iter().any(|part| has_line(line, part.irqs.as_slice()))
+    boxes
+        .iter()
+        .any(|part| has_line(line, part.irqs.as_slice()))
 }
 
 /// Whether some box owns the line.

@@ -52,10 +52,8 @@ fn instruction_in(
     program: &ThreadPart,
     thread: &ThreadState,
 ) -> Option<Instr>
-    ensures {
-        result ≡ spec.instruction_in flat.now t.0 program.now thread.now
-            (slice_get cfg.now.boxes program.now.home.0)
-    }
+    ensures { result ≡ spec.instruction_in flat.now t.0 program.now thread.now
+        (slice_get cfg.now.boxes program.now.home.0) }
 {
     match cfg.boxes.as_slice().get(program.home.0 as usize) {
         Some(part) => next_instruction(part, program, &flat.shared, thread, t),
@@ -75,10 +73,8 @@ fn aligned_access(thread: &ThreadState, instr: Instr) -> Option<Access>
 
 /// The aligned access that a turn of a thread decides, if it decides one.
 pub fn touch_at(cfg: &Config, flat: &Flat, t: ThreadId) -> Option<Access>
-    ensures {
-        result ≡ spec.touch_at cfg.now flat.now t.0
-            (slice_get cfg.now.threads t.0) (slice_get flat.now.threads t.0)
-    }
+    ensures { result ≡ spec.touch_at cfg.now flat.now t.0
+        (slice_get cfg.now.threads t.0) (slice_get flat.now.threads t.0) }
 {
     let Some(program) = program_of(cfg, t) else {
         return None;

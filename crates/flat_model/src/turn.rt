@@ -24,10 +24,8 @@ fn instruction_row(
     instr: Option<Instr>,
 ) -> Reply
     requires { today.runs_today instr ≡ true }
-    ensures {
-        spec.instruction_row cfg.now who part.now shared.old thread.old instr
-            ≡ record { shared = shared.new; thread = thread.new; reply = result }
-    }
+    ensures { spec.instruction_row cfg.now who part.now shared.old thread.old instr
+        ≡ record { shared = shared.new; thread = thread.new; reply = result } }
 {
     let _ = part;
     let Some(instr) = instr else {
@@ -80,11 +78,9 @@ fn ready_row(
     thread: &mut ThreadState,
 ) -> Reply
     requires { today.runs_today (slice_get program.now.program thread.old.pc) ≡ true }
-    ensures {
-        spec.ready_row cfg.now who part.now program.now shared.old thread.old
-            (due_interrupt shared.old.lines part.now who.home.0 who.thread.0)
-            ≡ record { shared = shared.new; thread = thread.new; reply = result }
-    }
+    ensures { spec.ready_row cfg.now who part.now program.now shared.old thread.old
+        (due_interrupt shared.old.lines part.now who.home.0 who.thread.0)
+        ≡ record { shared = shared.new; thread = thread.new; reply = result } }
 {
     match due_interrupt(&shared.lines, part, who.home, who.thread) {
         Some(irq) => delivery_row(who.home, shared, thread, irq),
@@ -105,10 +101,8 @@ fn acting_row(
     thread: &mut ThreadState,
 ) -> Reply
     requires { today.runs_today (slice_get program.now.program thread.old.pc) ≡ true }
-    ensures {
-        spec.acting_row cfg.now who part.now program.now shared.old thread.old
-            ≡ record { shared = shared.new; thread = thread.new; reply = result }
-    }
+    ensures { spec.acting_row cfg.now who part.now program.now shared.old thread.old
+        ≡ record { shared = shared.new; thread = thread.new; reply = result } }
 {
     if is_waiting(thread.mode) {
         waiting_row(who, shared, thread)
@@ -141,10 +135,8 @@ pub(crate) fn turn_row(
 ) -> Reply
     requires today { today.runs_today (slice_get program.now.program thread.old.pc) ≡ true }
     requires steps { thread_words.has_ended thread.old ≡ false → thread.old.steps + 1 < 2 ^ 32 }
-    ensures {
-        spec.turn_row cfg.now who part.now program.now shared.old thread.old
-            ≡ record { shared = shared.new; thread = thread.new; reply = result }
-    }
+    ensures { spec.turn_row cfg.now who part.now program.now shared.old thread.old
+        ≡ record { shared = shared.new; thread = thread.new; reply = result } }
 {
     if has_ended(thread) {
         return Reply::Ended;

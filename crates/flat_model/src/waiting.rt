@@ -64,7 +64,10 @@ fn collected(ticket: Ticket, call: Call) -> Call
     ensures { result ≡ calls_words.collected_call ticket call }
 {
     if same_ticket(ticket, call.ticket) {
-        Call { state: CallState::Collected, ..call }
+        Call {
+            state: CallState::Collected,
+            ..call
+        }
     } else {
         call
     }
@@ -107,13 +110,14 @@ fn look_row(
     awaited: Awaited,
     value: Option<u32>,
 ) -> Reply
-    ensures {
-        spec.look_row who shared.old thread.old awaited value
-            ≡ record { shared = shared.new; thread = thread.new; reply = result }
-    }
+    ensures { spec.look_row who shared.old thread.old awaited value
+        ≡ record { shared = shared.new; thread = thread.new; reply = result } }
 {
     if let Some(value) = value {
-        let ticket = Ticket { thread: who.thread, seq: awaited.seq };
+        let ticket = Ticket {
+            thread: who.thread,
+            seq: awaited.seq,
+        };
         collect(ticket, &mut shared.calls);
         wake(thread, value);
         return Reply::Value(value);
@@ -123,22 +127,26 @@ fn look_row(
         time_out(thread, awaited.seq);
         Reply::Status(1)
     } else {
-        thread.awaited = Some(Awaited { seq: awaited.seq, looks });
+        thread.awaited = Some(Awaited {
+            seq: awaited.seq,
+            looks,
+        });
         Reply::Waiting
     }
 }
 
 /// A turn of a thread that waits.
 pub(crate) fn waiting_row(who: Who, shared: &mut Shared, thread: &mut ThreadState) -> Reply
-    ensures {
-        spec.waiting_row who shared.old thread.old thread.old.awaited
-            ≡ record { shared = shared.new; thread = thread.new; reply = result }
-    }
+    ensures { spec.waiting_row who shared.old thread.old thread.old.awaited
+        ≡ record { shared = shared.new; thread = thread.new; reply = result } }
 {
     let Some(awaited) = thread.awaited else {
         return Reply::Waiting;
     };
-    let ticket = Ticket { thread: who.thread, seq: awaited.seq };
+    let ticket = Ticket {
+        thread: who.thread,
+        seq: awaited.seq,
+    };
     let value = result_of(open_call(ticket, shared.calls.as_slice()));
     look_row(who, shared, thread, awaited, value)
 }

@@ -1,6 +1,6 @@
 use Rattle.std.proofs.Common.{◌≡◌, drop, not}
 use Rattle.flat_model.specs.First.{first_index}
-use Rattle.box_config.specs.Names.{is_name}
+use Rattle.flat_model.specs.Names.{is_name}
 use Rattle.box_config.proofs.names.first_bad.Given as goal
 
 abbrev pub invariant-loop-i : goal.invariant-loop-i

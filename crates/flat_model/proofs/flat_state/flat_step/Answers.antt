@@ -8,4 +8,4 @@ use Rattle.flat_model.proofs.flat_state.flat_step.Goals as goal
 pub invariant_of-state : goal.invariant_of-state
 invariant_of-state c =
     subst (λ (p : Flat × Reply). AllCanStep p.0) c.flat_event.ensures
-        (can_step-step c.args.cfg.now c.requires.sound c.state.inside.flat c.args.choice.now c.requires.today c.state.invariant)
+    (can_step-step c.args.cfg.now c.requires.sound c.state.inside.flat c.args.choice.now c.requires.today c.state.invariant)

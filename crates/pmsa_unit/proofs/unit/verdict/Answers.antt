@@ -16,18 +16,18 @@ use Rattle.pmsa_unit.proofs.unit.verdict.Goals as goal
 decided : (pairs : List Pair) (a : ℕ) (kind : Kind) (slot : ℕ) → length pairs ≡ 8 → 0 < slot → slot ≤ 8 → ((j : ℕ) → slot ≤ j → j < 8 → matches_at pairs a j ≡ false) → matches (slice_index_or pairs (slot - 1) no_pair) a ≡ true → decision pairs a kind ≡ (if pair_gives (slice_index_or pairs (slot - 1) no_pair) kind then Granted (slot - 1) else Denied)
 decided pairs a kind slot len some low none hit =
     decision-at pairs a kind (slot - 1) (slice_index_or pairs (slot - 1) no_pair)
-        (slice_get-get_or pairs (slot - 1) no_pair (omega arith)) hit (λ j after below. none j (omega arith) (omega arith))
+    (slice_get-get_or pairs (slot - 1) no_pair (omega arith)) hit (λ j after below. none j (omega arith) (omega arith))
 
 -- one more region that lacks the address
 passed : (pairs : List Pair) (a slot : ℕ) → length pairs ≡ 8 → 0 < slot → slot ≤ 8 → ((j : ℕ) → slot ≤ j → j < 8 → matches_at pairs a j ≡ false) → matches (slice_index_or pairs (slot - 1) no_pair) a ≡ false → (j : ℕ) → slot - 1 ≤ j → j < 8 → matches_at pairs a j ≡ false
 passed pairs a slot len some low none miss j after below = elim (cases_eq j (slot - 1)) [
-    inl same ↦ subst (λ i. matches_at pairs a i ≡ false) (sym same)
-        (matches_at-some pairs a (slot - 1) (slice_index_or pairs (slot - 1) no_pair) (slice_get-get_or pairs (slot - 1) no_pair (omega arith)) ∙ miss)
+  | inl same ↦ subst (λ i. matches_at pairs a i ≡ false) (sym same)
+      (matches_at-some pairs a (slot - 1) (slice_index_or pairs (slot - 1) no_pair) (slice_get-get_or pairs (slot - 1) no_pair (omega arith)) ∙ miss)
   | inr other ↦ none j (past j slot some after other) below
 ]
- where
-  past : (j slot : ℕ) → 0 < slot → slot - 1 ≤ j → (j ≡ slot - 1 → ⊥) → slot ≤ j
-  past j slot some after other = omega (arith, other)
+  where
+    past : (j slot : ℕ) → 0 < slot → slot - 1 ≤ j → (j ≡ slot - 1 → ⊥) → slot ≤ j
+    past j slot some after other = omega (arith, other)
 
 pub returns-then-gives_kind : goal.returns-then-gives_kind
 returns-then-gives_kind c =
@@ -35,7 +35,7 @@ returns-then-gives_kind c =
     let hit : matches (slice_index_or c.args.pairs.now (s - 1) no_pair) c.args.a ≡ true = sym c.matches_address.ensures ∙ c.if-matches_address.true in
     let given : pair_gives (slice_index_or c.args.pairs.now (s - 1) no_pair) c.args.kind ≡ true = sym c.gives_kind.ensures ∙ c.if-gives_kind.true in
     sym (decided c.args.pairs.now c.args.a c.args.kind s c.told-pairs (omega arith) (omega arith) c.loop-slot.invariant hit
-        ∙ ap (λ t. if t then Granted (s - 1) else Denied) given)
+    ∙ ap (λ t. if t then Granted (s - 1) else Denied) given)
 
 pub returns-else-gives_kind : goal.returns-else-gives_kind
 returns-else-gives_kind c =
@@ -43,7 +43,7 @@ returns-else-gives_kind c =
     let hit : matches (slice_index_or c.args.pairs.now (s - 1) no_pair) c.args.a ≡ true = sym c.matches_address.ensures ∙ c.if-matches_address.true in
     let given : pair_gives (slice_index_or c.args.pairs.now (s - 1) no_pair) c.args.kind ≡ false = sym c.gives_kind.ensures ∙ c.if-gives_kind.false in
     sym (decided c.args.pairs.now c.args.a c.args.kind s c.told-pairs (omega arith) (omega arith) c.loop-slot.invariant hit
-        ∙ ap (λ t. if t then Granted (s - 1) else Denied) given)
+    ∙ ap (λ t. if t then Granted (s - 1) else Denied) given)
 
 pub loop-slot-preserved : goal.loop-slot-preserved
 loop-slot-preserved c =

@@ -1,0 +1,3 @@
+pub mod EventLemmas
+pub mod KeptEvents
+pub mod MachineLemmas

@@ -1,0 +1,5 @@
+pub mod Groups
+pub mod Homes
+pub mod SampleLemmas
+pub mod Serving
+pub mod Turns

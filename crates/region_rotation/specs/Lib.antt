@@ -1,0 +1,4 @@
+pub mod Coverable
+pub mod Ready
+pub mod Rotation
+pub mod Sample
