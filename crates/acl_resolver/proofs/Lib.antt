@@ -1,0 +1,15 @@
+pub mod Unrefused
+pub mod PlaceLemmas
+pub mod GrantLemmas
+pub mod LineLemmas
+pub mod BoxLemmas
+pub mod WordLemmas
+pub mod Soundness
+pub mod Due
+pub mod ReadablePlaces
+pub mod ReadableParts
+pub mod ReadableTexts
+pub mod ReadableNames
+pub mod ReadableBoard
+pub mod ReadableBoxes
+pub mod Readable

@@ -1,0 +1,63 @@
+//! Resolves a firmware's parts to its configuration, or to the first reason why it is refused.
+#![tactic(auto)]
+
+mod boxes;
+mod clashes;
+mod gates;
+mod gateways;
+mod grants;
+mod lines;
+mod placing;
+mod script;
+mod spelling;
+mod stages;
+mod threads;
+mod words;
+
+ghost use Rattle.std.specs.Prelude.{◌≡◌, IfOk, IfErr, map, string_bytes};
+ghost use Rattle.flat_model.specs.First.{IsCause};
+ghost use Rattle.flat_model.specs.Sound.{IsSound};
+ghost use Rattle.acl_resolver.specs.Resolvable.{IsResolvable};
+ghost use Rattle.acl_resolver.specs.Resolve.{parts_of, resolution_of};
+
+use boxes::box_parts;
+use flat_model::{Board, BoxText, ConfigErr, DevicePart, GateTexts, Items};
+use gateways::{call_gates, register_gates};
+use stages::{naming_refusal, or_memory, placing_refusal, scripted, unless_refused};
+use std::alloc::Global;
+
+pub use flat_model::Config;
+
+/// The configuration of a firmware's parts, or their first refusal (docs/INPUT.md).
+pub fn resolve(
+    alloc: Global,
+    board: Board,
+    boxes: Vec<BoxText>,
+    gates: GateTexts,
+    devices: Vec<DevicePart>,
+    script: Vec<String>,
+) -> Result<Config, ConfigErr>
+    requires { IsResolvable (parts_of board boxes.items gates devices.items (map string_bytes script.items)) }
+
+    ensures ok { IfOk result (λ cfg. resolution_of (parts_of board boxes.items gates devices.items (map string_bytes script.items)) ≡ Ok cfg) }
+    ensures err { IfErr result (IsCause (resolution_of (parts_of board boxes.items gates devices.items (map string_bytes script.items)))) }
+    ensures sound { IfOk result IsSound }
+{
+    let texts = boxes.as_slice();
+    unless_refused(placing_refusal(&board, texts))?;
+    unless_refused(naming_refusal(&board, texts, &gates))?;
+    let made = scripted(alloc, texts, devices.as_slice(), script.as_slice())?;
+    let parts = or_memory(box_parts(alloc, &board, texts))?;
+    let registers = or_memory(register_gates(alloc, texts, gates.registers.as_slice()))?;
+    let gateways = or_memory(call_gates(alloc, texts, gates.gateways.as_slice()))?;
+    Ok(Config {
+        version: 1,
+        board,
+        boxes: Items::from_vec(parts),
+        threads: Items::from_vec(made.threads),
+        registers: Items::from_vec(registers),
+        gateways: Items::from_vec(gateways),
+        devices: Items::from_vec(devices),
+        script: Items::from_vec(made.script),
+    })
+}

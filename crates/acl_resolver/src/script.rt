@@ -1,0 +1,63 @@
+ghost use Rattle.std.specs.Prelude.{◌≡◌, ◌++◌, ◌∷◌, [], None, IfOk, IfErr, OnOk, map, string_bytes};
+ghost use Rattle.std.specs.List.{filter_map};
+ghost use Rattle.flat_model.specs.First.{number};
+ghost use Rattle.acl_resolver.specs.Naming.{bad_word_at, word_of_text};
+ghost use Rattle.acl_resolver.specs.Refusals.{first_numbered};
+ghost use Rattle.acl_resolver.specs.Resolve.{IsDue};
+
+use crate::placing::numbered;
+use crate::spelling::Spelled;
+use flat_model::{ConfigErr, Refused, ScriptWord};
+use std::alloc::Global;
+
+// What a word of a script stands for.
+fn word_of_text(table: &[Spelled], text: &str) -> Option<ScriptWord>
+    ensures { result ≡ word_of_text table.now text.now }
+{
+    for spelled in table {
+        if spelled.text.as_str() == text {
+            return Some(spelled.word);
+        }
+    }
+    None
+}
+
+// What the script word at this place stands for.
+fn word_at(table: &[Spelled], at: usize, text: &str) -> Result<ScriptWord, ConfigErr>
+    ensures ok { IfOk result (λ word. word_of_text table.now text.now ≡ Some word) }
+    ensures err { IfErr result (IsDue (bad_word_at table.now (number at) text.now)) }
+{
+    match word_of_text(table, text) {
+        Some(word) => Ok(word),
+        None => Err(ConfigErr::Refused(Refused::BadScript { at: numbered(at) })),
+    }
+}
+
+// Puts a word behind others.
+fn push_word(words: &mut Vec<ScriptWord>, word: ScriptWord) -> Result<(), ConfigErr>
+    ensures ok { OnOk result (words.new.items ≡ words.old.items ++ word ∷ []) }
+    ensures err { IfErr result (λ e. e ≡ ConfigErr.Memory) }
+{
+    match words.push(word) {
+        Ok(()) => Ok(()),
+        Err(_) => Err(ConfigErr::Memory),
+    }
+}
+
+/// What the words of a script stand for, where each is one of those in the table.
+pub fn script_of(
+    alloc: Global,
+    table: &[Spelled],
+    script: &[String],
+) -> Result<Vec<ScriptWord>, ConfigErr>
+    ensures none { OnOk result (first_numbered (bad_word_at table.now) 0 (map string_bytes script.now) ≡ None) }
+    ensures ok { IfOk result (λ v. v.items ≡ filter_map (word_of_text table.now) (map string_bytes script.now)) }
+    ensures err { IfErr result (IsDue (first_numbered (bad_word_at table.now) 0 (map string_bytes script.now))) }
+{
+    let mut words = Vec::new(alloc);
+    for (at, text) in script.iter().enumerate() {
+        let word = word_at(table, at, text.as_str())?;
+        push_word(&mut words, word)?;
+    }
+    Ok(words)
+}
