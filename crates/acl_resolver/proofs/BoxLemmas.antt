@@ -1,5 +1,5 @@
 -- What the boxes and threads of a configuration are, against the texts that they come from.
-use Rattle.std.proofs.Common.{◌≡◌, ℕ, suc, ◌+◌, ◌<◌, ◌≤◌, Bool, cond, List, [], ◌∷◌, ◌++◌, map, length, sum, Option, Some, None, Result, Ok, Err, refl, sym, subst, ◌∙◌, ap, arith, length-append}
+use Rattle.std.proofs.Common.{◌≡◌, ℕ, suc, ◌+◌, ◌<◌, ◌≤◌, cond, List, [], ◌∷◌, ◌++◌, map, length, None, Result, Ok, Err, refl, sym, subst, ◌∙◌, ap, arith, length-append}
 use Rattle.std.specs.Prelude.{count_by, replicate, sum_by}
 use Rattle.std.specs.List.{AllByRecursion, flat_map, list_any}
 use Rattle.std.proofs.lemmas.List.{length-map, map-append}
@@ -20,7 +20,7 @@ use Rattle.flat_model.specs.declared.texts.ThreadText.{ThreadText}
 use Rattle.flat_model.specs.Interrupts.{has_line}
 use Rattle.flat_model.specs.Operands.{IsValidInstr}
 use Rattle.flat_model.specs.Sound.{AreNumbered, IsBox, IsThread, homes_from}
-use Rattle.acl_resolver.specs.Refusals.{bad_grant_of, is_line_of, is_line_of_some, outside_of, own_after, self_overlap_of}
+use Rattle.acl_resolver.specs.Refusals.{bad_grant_of, is_line_of_some, outside_of, own_after, self_overlap_of}
 use Rattle.acl_resolver.specs.Resolvable.{IsBoxText, IsIrq, IsThreadText, steps_of, threads_of}
 use Rattle.acl_resolver.specs.Resolve.{bad_program_at, bad_program_of, box_part, box_parts, grant_item, instructions_of, refusal_of_program, thread_part, thread_parts}
 use Rattle.acl_resolver.proofs.GrantLemmas.{grants_apart, grants_sound}
@@ -48,13 +48,13 @@ boxes_owning board start t (b ∷ boxes) =
 
 -- the boxes name the lines of their texts
 pub boxes_lines : (board : Board) (start t : ℕ) (boxes : List BoxText)
-  → flat_map (λ (part : BoxPart). map line_of part.irqs) (box_parts board start t boxes) ≡ lines_of boxes
+    → flat_map (λ (part : BoxPart). map line_of part.irqs) (box_parts board start t boxes) ≡ lines_of boxes
 boxes_lines board start t [] = refl
 boxes_lines board start t (b ∷ boxes) = ap (λ lines. map line_of b.irqs ++ lines) (boxes_lines board (end_of (own_after start b.size)) (t + length b.threads) boxes)
 
 -- a line is owned by a box exactly where its text names it
 pub boxes_own : (board : Board) (start t : ℕ) (boxes : List BoxText) (line : ℕ)
-  → list_any (λ (part : BoxPart). has_line line part.irqs) (box_parts board start t boxes) ≡ is_line_of_some boxes line
+    → list_any (λ (part : BoxPart). has_line line part.irqs) (box_parts board start t boxes) ≡ is_line_of_some boxes line
 boxes_own board start t [] line = refl
 boxes_own board start t (b ∷ boxes) line = rw (boxes_own board (end_of (own_after start b.size)) (t + length b.threads) boxes line) refl
 
@@ -74,7 +74,7 @@ homes_of i (thread ∷ threads) = ap (λ (homes : List BoxId). record { 0 = i } 
 
 -- each thread belongs to its box
 pub threads_homes : (board : Board) (start t i : ℕ) (boxes : List BoxText)
-  → map (λ (thread : ThreadPart). thread.home) (thread_parts i boxes) ≡ homes_from i (box_parts board start t boxes)
+    → map (λ (thread : ThreadPart). thread.home) (thread_parts i boxes) ≡ homes_from i (box_parts board start t boxes)
 threads_homes board start t i [] = refl
 threads_homes board start t i (b ∷ boxes) =
     map-append (λ (thread : ThreadPart). thread.home) (map (thread_part i) b.threads) (thread_parts (i + 1) boxes)
@@ -124,8 +124,8 @@ box_threads_sound : (i n : ℕ) (b : BoxText) → AllByRecursion IsThreadText b.
 box_threads_sound i n b texts h =
     all_made (thread_part i) IsThread b.threads
     (all_weaker (λ thread. IsThreadText thread × ((IsThreadText thread) → IsThread (thread_part i thread))) (λ thread. IsThread (thread_part i thread)) (λ thread facts. facts.1 facts.0) b.threads
-      (all_both IsThreadText (λ thread. IsThreadText thread → IsThread (thread_part i thread)) b.threads texts
-        (each_numbered (bad_program_at n) (λ thread. IsThreadText thread → IsThread (thread_part i thread)) (λ j thread good text. thread_sound i n j thread text good) 0 b.threads h)))
+    (all_both IsThreadText (λ thread. IsThreadText thread → IsThread (thread_part i thread)) b.threads texts
+    (each_numbered (bad_program_at n) (λ thread. IsThreadText thread → IsThread (thread_part i thread)) (λ j thread good text. thread_sound i n j thread text good) 0 b.threads h)))
 
 -- a box whose threads have programs that are not refused
 pub record HasPrograms (b : BoxText) : Type 0 where
@@ -137,8 +137,8 @@ pub threads_sound : (i : ℕ) (boxes : List BoxText) → AllByRecursion IsBoxTex
 threads_sound i [] each good = tt
 threads_sound i (b ∷ boxes) each good =
     all_joined IsThread (map (thread_part i) b.threads) (thread_parts (i + 1) boxes)
-      (box_threads_sound i good.0.number b each.0.threads good.0.good)
-      (threads_sound (i + 1) boxes each.1 good.1)
+    (box_threads_sound i good.0.number b each.0.threads good.0.good)
+    (threads_sound (i + 1) boxes each.1 good.1)
 
 -- a box whose grants are not refused
 pub record HasGrants (board : Board) (common : Range) (b : BoxText) : Type 0 where
@@ -162,8 +162,9 @@ box_sound board common own t b text grants = record {
 
 -- the boxes are sound, each for itself
 pub boxes_sound : (board : Board) (common : Range) (start t : ℕ) (boxes : List BoxText) → AllByRecursion IsBoxText boxes → AllByRecursion (HasGrants board common) boxes
-  → AllByRecursion (IsBox board common) (box_parts board start t boxes)
+    → AllByRecursion (IsBox board common) (box_parts board start t boxes)
 boxes_sound board common start t [] each grants = tt
-boxes_sound board common start t (b ∷ boxes) each grants =
-    (box_sound board common (own_after start b.size) t b each.0 grants.0,
-      boxes_sound board common (end_of (own_after start b.size)) (t + length b.threads) boxes each.1 grants.1)
+boxes_sound board common start t (b ∷ boxes) each grants = (
+  box_sound board common (own_after start b.size) t b each.0 grants.0,
+  boxes_sound board common (end_of (own_after start b.size)) (t + length b.threads) boxes each.1 grants.1,
+)

@@ -1,7 +1,7 @@
 -- The grants of a box that is not refused are sound.
-use Rattle.std.proofs.Common.{◌≡◌, ℕ, ◌+◌, ◌%◌, ◌^◌, ◌<◌, ◌≤◌, Bool, true, false, ◌&&◌, ◌||◌, cond, max, min, List, [], ◌∷◌, ◌++◌, map, Option, Some, None, refl, sym, subst, ◌∙◌, ap, inl, inr, ◌⊎◌, arith}
+use Rattle.std.proofs.Common.{◌≡◌, ℕ, ◌+◌, ◌%◌, ◌^◌, ◌<◌, ◌≤◌, Bool, true, false, ◌&&◌, cond, max, min, List, [], ◌∷◌, ◌++◌, map, Option, Some, None, refl, sym, subst, ◌∙◌, inl, inr, ◌⊎◌, arith}
 use Rattle.std.specs.Prelude.{is_none, nat_eq, nat_le, nat_lt, not, option_and_then, unwrap_or}
-use Rattle.std.specs.List.{AllByRecursion, list_any}
+use Rattle.std.specs.List.{AllByRecursion}
 use Rattle.std.proofs.lemmas.Bool.{and_parts, eqb-true, false_from_ne_true, leb-true, ltb-false, ltb-true, not-true, not-false, or_cases, or_parts, eqb-false}
 use Rattle.std.proofs.lemmas.List.Folds.{list_any-append}
 use Rattle.std.proofs.Math.Nat.{mod_self}
@@ -20,7 +20,7 @@ use Rattle.acl_resolver.specs.Refusals.{bad_grant_at, bad_grant_of, do_overlap, 
 use Rattle.acl_resolver.specs.Resolvable.{IsGrantText}
 use Rattle.acl_resolver.specs.Resolve.{grant_item}
 use Rattle.acl_resolver.proofs.PlaceLemmas.{IsLargePower, large_down, large_up}
-use Rattle.acl_resolver.proofs.Unrefused.{all_both, all_made, all_weaker, each_numbered, not_refused, one_of}
+use Rattle.acl_resolver.proofs.Unrefused.{all_both, all_made, all_weaker, each_numbered, not_refused}
 
 only : {A : Type 0} (b : Bool) (x y : A) → cond b (Some x) None ≡ Some y → (b ≡ true) × (x ≡ y)
 only true x y h = (refl, cc)
@@ -45,11 +45,11 @@ written_tiled base len range h =
     let some : len ≡ 0 → ⊥ = eqb-false len 0 (not-true (nat_eq len 0) outer.1) in
     subst IsTiledRange only_if.1 (record { enough = enough_from len len_whole some; base = base_whole; len = len_whole })
   where
-  enough_from : (n : ℕ) → n % 32 ≡ 0 → (n ≡ 0 → ⊥) → 32 ≤ n
-  enough_from n whole some = omega arith
+    enough_from : (n : ℕ) → n % 32 ≡ 0 → (n ≡ 0 → ⊥) → 32 ≤ n
+    enough_from n whole some = omega arith
 
 multiple_tiled : (base : ℕ) (o : Option ℕ) → ((p : ℕ) → o ≡ Some p → IsLargePower p) → (range : Range)
-  → option_and_then (range_at_multiple base) o ≡ Some range → IsTiledRange range
+    → option_and_then (range_at_multiple base) o ≡ Some range → IsTiledRange range
 multiple_tiled base None large range h = cc
 multiple_tiled base (Some len) large range h =
     let only_if = only (nat_eq (base % len) 0) (record { base = base; len = len }) range h in
@@ -83,22 +83,22 @@ placed board common range h = elim (or_cases (is_inside range board.peripherals)
 
 -- the grants of a box are sound, each for itself
 pub grants_sound : (board : Board) (common : Range) (i j : ℕ) (b : BoxText) → AllByRecursion IsGrantText b.grants → bad_grant_of i b ≡ None
-  → outside_of board common j b ≡ None → AllByRecursion (IsGrant board common) (map grant_item b.grants)
+    → outside_of board common j b ≡ None → AllByRecursion (IsGrant board common) (map grant_item b.grants)
 grants_sound board common i j b texts good within =
     all_made grant_item (IsGrant board common) b.grants
     (all_weaker (λ grant. IsGrantText grant × (IsTiledRange (rounded_range grant) × (is_grantable board common (rounded_range grant) ≡ true))) (λ grant. IsGrant board common (grant_item grant))
-      (λ grant facts. record {
-        tiled = facts.1.0;
-        rights = facts.0.rights;
-        placed = placed board common (rounded_range grant) facts.1.1;
-      })
-      b.grants
-      (all_both IsGrantText (λ grant. IsTiledRange (rounded_range grant) × (is_grantable board common (rounded_range grant) ≡ true)) b.grants texts
-        (all_both (λ grant. IsTiledRange (rounded_range grant)) (λ grant. is_grantable board common (rounded_range grant) ≡ true) b.grants
-          (each_numbered (bad_grant_at i) _ (λ n grant. grant_tiled i n grant) 0 b.grants good)
-          (each_numbered (outside_at board common j) (λ grant. is_grantable board common (rounded_range grant) ≡ true)
-            (λ n grant h. not-false (is_grantable board common (rounded_range grant)) (not_refused (not (is_grantable board common (rounded_range grant))) _ h))
-            0 b.grants within))))
+    (λ grant facts. record {
+      tiled = facts.1.0;
+      rights = facts.0.rights;
+      placed = placed board common (rounded_range grant) facts.1.1;
+    })
+    b.grants
+    (all_both IsGrantText (λ grant. IsTiledRange (rounded_range grant) × (is_grantable board common (rounded_range grant) ≡ true)) b.grants texts
+    (all_both (λ grant. IsTiledRange (rounded_range grant)) (λ grant. is_grantable board common (rounded_range grant) ≡ true) b.grants
+    (each_numbered (bad_grant_at i) _ (λ n grant. grant_tiled i n grant) 0 b.grants good)
+    (each_numbered (outside_at board common j) (λ grant. is_grantable board common (rounded_range grant) ≡ true)
+    (λ n grant h. not-false (is_grantable board common (rounded_range grant)) (not_refused (not (is_grantable board common (rounded_range grant))) _ h))
+    0 b.grants within))))
 
 apart_at : (first second : Range) (a : ℕ) → min (end_of second) (end_of first) ≤ max second.base first.base → in_range first a ≡ true → in_range second a ≡ true → ⊥
 apart_at first second a past here there =
@@ -124,22 +124,24 @@ none_here false x o h = (refl, h)
 later_apart : (j : ℕ) (before grants : List GrantText) → first_after overlaps_one j before grants ≡ None → AllByRecursion (λ grant. overlaps_one before grant ≡ false) grants
 later_apart j before [] h = tt
 later_apart j before (grant ∷ grants) h =
-    let both = none_here (overlaps_one before grant) (number j) (first_after overlaps_one (j + 1) (before ++ grant ∷ []) grants) h in
-    (both.0,
+    let both = none_here (overlaps_one before grant) (number j) (first_after overlaps_one (j + 1) (before ++ grant ∷ []) grants) h in (
+      both.0,
       all_weaker (λ later. overlaps_one (before ++ grant ∷ []) later ≡ false) (λ later. overlaps_one before later ≡ false)
-      (λ later past. (or_parts (overlaps_one before later) (overlaps_one (grant ∷ []) later) (sym (list_any-append (do_overlap later) before (grant ∷ [])) ∙ past)).0)
-      grants (later_apart (j + 1) (before ++ grant ∷ []) grants both.1))
+          (λ later past. (or_parts (overlaps_one before later) (overlaps_one (grant ∷ []) later) (sym (list_any-append (do_overlap later) before (grant ∷ [])) ∙ past)).0)
+          grants (later_apart (j + 1) (before ++ grant ∷ []) grants both.1),
+    )
 
 grants_behind : (j : ℕ) (before grants : List GrantText) → first_after overlaps_one j before grants ≡ None → AreGrantsApart (map grant_item grants)
 grants_behind j before [] h = tt
 grants_behind j before (grant ∷ grants) h =
-    let both = none_here (overlaps_one before grant) (number j) (first_after overlaps_one (j + 1) (before ++ grant ∷ []) grants) h in
-    (all_made grant_item (λ other. AreApart (rounded_range grant) other.range) grants
-      (all_weaker (λ later. overlaps_one (before ++ grant ∷ []) later ≡ false) (λ later. AreApart (rounded_range grant) (rounded_range later))
-        (λ later past. ranges_apart (rounded_range grant) (rounded_range later)
+    let both = none_here (overlaps_one before grant) (number j) (first_after overlaps_one (j + 1) (before ++ grant ∷ []) grants) h in (
+      all_made grant_item (λ other. AreApart (rounded_range grant) other.range) grants
+          (all_weaker (λ later. overlaps_one (before ++ grant ∷ []) later ≡ false) (λ later. AreApart (rounded_range grant) (rounded_range later))
+          (λ later past. ranges_apart (rounded_range grant) (rounded_range later)
           (or_parts (do_overlap later grant) false (or_parts (overlaps_one before later) (overlaps_one (grant ∷ []) later) (sym (list_any-append (do_overlap later) before (grant ∷ [])) ∙ past)).1).0)
-        grants (later_apart (j + 1) (before ++ grant ∷ []) grants both.1)),
-      grants_behind (j + 1) (before ++ grant ∷ []) grants both.1)
+          grants (later_apart (j + 1) (before ++ grant ∷ []) grants both.1)),
+      grants_behind (j + 1) (before ++ grant ∷ []) grants both.1,
+    )
 
 no_overlap : (i : ℕ) (o : Option ℕ) → self_overlap_at i o ≡ None → o ≡ None
 no_overlap i None h = refl

@@ -2,7 +2,7 @@
 use Rattle.std.proofs.Common.{◌≡◌, ℕ, ◌+◌, Bool, true, false, ◌||◌, cond, List, [], ◌∷◌, ◌++◌, map, Option, Some, None, refl, sym, subst, ◌∙◌, ap, append_assoc, eq-eqb}
 use Rattle.std.specs.Prelude.{nat_eq}
 use Rattle.std.specs.List.{flat_map, list_any}
-use Rattle.std.proofs.lemmas.Bool.{both_ways, eqb-true, false_from_ne_true, or_from, or_left, or_parts, or_right}
+use Rattle.std.proofs.lemmas.Bool.{both_ways, eqb-true, false_from_ne_true, or_from, or_left, or_right}
 use Rattle.std.proofs.lemmas.List.{append-nil, map-append}
 use Rattle.std.proofs.lemmas.List.Folds.{list_any-append}
 use Rattle.std.proofs.lemmas.Grind.{flat_map-append}
@@ -11,7 +11,7 @@ use Rattle.flat_model.specs.declared.texts.BoxText.{BoxText}
 use Rattle.flat_model.specs.First.{first_after, number}
 use Rattle.flat_model.specs.Interrupts.{has_line}
 use Rattle.flat_model.specs.Sound.{AreDistinct}
-use Rattle.acl_resolver.specs.Refusals.{first_behind, is_line_of, is_line_of_some, is_taken, line_taken, line_taken_at, line_taken_of}
+use Rattle.acl_resolver.specs.Refusals.{first_behind, is_line_of_some, is_taken, line_taken, line_taken_at, line_taken_of}
 use Rattle.acl_resolver.proofs.Unrefused.{neither}
 
 -- the number of an interrupt line
@@ -60,12 +60,13 @@ one_more : (earlier : List ℕ) (before : List IrqPart) (irq : IrqPart) → earl
 one_more earlier before irq = ap (λ v. earlier ++ v) (map-append line_of before (irq ∷ [])) ∙ sym (append_assoc earlier (map line_of before) (irq.line.0 ∷ []))
 
 box_new : (earlier : List BoxText) (j : ℕ) (before irqs : List IrqPart) → first_after (is_taken earlier) j before irqs ≡ None
-  → AreNew (lines_of earlier ++ map line_of before) (map line_of irqs)
+    → AreNew (lines_of earlier ++ map line_of before) (map line_of irqs)
 box_new earlier j before [] h = tt
 box_new earlier j before (irq ∷ irqs) h =
-    let both = none_here (is_taken earlier before irq) (number j) (first_after (is_taken earlier) (j + 1) (before ++ irq ∷ []) irqs) h in
-    (sym (taken_in earlier before irq) ∙ both.0,
-      subst (λ v. AreNew v (map line_of irqs)) (one_more (lines_of earlier) before irq) (box_new earlier (j + 1) (before ++ irq ∷ []) irqs both.1))
+    let both = none_here (is_taken earlier before irq) (number j) (first_after (is_taken earlier) (j + 1) (before ++ irq ∷ []) irqs) h in (
+      sym (taken_in earlier before irq) ∙ both.0,
+      subst (λ v. AreNew v (map line_of irqs)) (one_more (lines_of earlier) before irq) (box_new earlier (j + 1) (before ++ irq ∷ []) irqs both.1),
+    )
 
 new_joined : (earlier xs ys : List ℕ) → AreNew earlier xs → AreNew (earlier ++ xs) ys → AreNew earlier (xs ++ ys)
 new_joined earlier [] ys new rest = subst (λ v. AreNew v ys) (append-nil earlier) rest
@@ -85,8 +86,8 @@ boxes_new earlier i (b ∷ boxes) h =
     let both = neither (line_taken_of earlier (number i) b) (first_behind line_taken_of (earlier ++ b ∷ []) (i + 1) boxes) h in
     let here = box_new earlier 0 [] b.irqs (none_taken (number i) (first_after (is_taken earlier) 0 [] b.irqs) both.0) in
     new_joined (lines_of earlier) (lines_of_box b) (lines_of boxes)
-      (subst (λ v. AreNew v (lines_of_box b)) (append-nil (lines_of earlier)) here)
-      (subst (λ v. AreNew v (lines_of boxes)) (one_box_more earlier b) (boxes_new (earlier ++ b ∷ []) (i + 1) boxes both.1))
+    (subst (λ v. AreNew v (lines_of_box b)) (append-nil (lines_of earlier)) here)
+    (subst (λ v. AreNew v (lines_of boxes)) (one_box_more earlier b) (boxes_new (earlier ++ b ∷ []) (i + 1) boxes both.1))
 
 not_met : (x z : ℕ) (earlier : List ℕ) → is_in x earlier ≡ false → is_in z earlier ≡ true → nat_eq z x ≡ false
 not_met x z earlier away here =

@@ -1,5 +1,5 @@
 -- Own memory is placed as a configuration's is, and ends at or below the limit.
-use Rattle.std.proofs.Common.{◌≡◌, ℕ, zero, suc, ◌+◌, ◌-◌, ◌*◌, ◌/◌, ◌%◌, ◌^◌, ◌<◌, ◌≤◌, max, Bool, true, false, cond, List, [], ◌∷◌, Option, Some, None, refl, sym, subst, ◌∙◌, ap, inl, inr, ◌⊎◌, arith, find}
+use Rattle.std.proofs.Common.{◌≡◌, ℕ, zero, suc, ◌+◌, ◌-◌, ◌*◌, ◌/◌, ◌%◌, ◌^◌, ◌<◌, ◌≤◌, max, Bool, true, false, cond, List, [], ◌∷◌, Option, Some, None, refl, sym, inl, inr, arith, find}
 use Rattle.std.specs.Prelude.{nat_lt, unwrap_or}
 use Rattle.std.proofs.lemmas.Bool.{cases_lt, ltb-false}
 use Rattle.std.proofs.Math.Nat.{div-add-mod, mul-mod_left}
@@ -101,13 +101,13 @@ pub record HasRoom (limit end i : ℕ) (boxes : List BoxText) : Type 0 where
   pub rest : no_room limit end (i + 1) boxes ≡ None
 
 room_by : (limit end i : ℕ) (boxes : List BoxText) (b : Bool) → nat_lt limit end ≡ b
-  → cond b (Some (Rattle.flat_model.specs.declared.refusals.Refused.TheVariants.NoRoom (number i))) (no_room limit end (i + 1) boxes) ≡ None → HasRoom limit end i boxes
+    → cond b (Some (Rattle.flat_model.specs.declared.refusals.Refused.TheVariants.NoRoom (number i))) (no_room limit end (i + 1) boxes) ≡ None → HasRoom limit end i boxes
 room_by limit end i boxes true t h = cc
 room_by limit end i boxes false t h = record { within = ltb-false limit end t; rest = h }
 
 -- there is room for the first box
 pub first_room : (limit start i : ℕ) (b : BoxText) (boxes : List BoxText) → no_room limit start i (b ∷ boxes) ≡ None
-  → HasRoom limit (end_of (own_after start b.size)) i boxes
+    → HasRoom limit (end_of (own_after start b.size)) i boxes
 first_room limit start i b boxes h = room_by limit (end_of (own_after start b.size)) i boxes (nat_lt limit (end_of (own_after start b.size))) refl h
 
 -- the last own memory ends at or below the limit
@@ -123,8 +123,8 @@ pub record IsLimit (board : Board) : Type 0 where
   pub high : limit_of board ≤ ADDRESS_END
 
 limit_by : (flash sram peripherals : Range) (secret : Option Range) (words : List Word) (heap : Option HeapPart)
-  → IsBoard (record { flash = flash; sram = sram; peripherals = peripherals; secret = secret; words = words; heap = heap })
-  → IsLimit (record { flash = flash; sram = sram; peripherals = peripherals; secret = secret; words = words; heap = heap })
+    → IsBoard (record { flash = flash; sram = sram; peripherals = peripherals; secret = secret; words = words; heap = heap })
+    → IsLimit (record { flash = flash; sram = sram; peripherals = peripherals; secret = secret; words = words; heap = heap })
 limit_by flash sram peripherals secret words None is = record { low = omega arith; high = is.sram_bank.ends }
 limit_by flash sram peripherals secret words (Some heap) is =
     let inside : IsHeap sram heap = is.heap in

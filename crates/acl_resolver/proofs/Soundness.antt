@@ -1,34 +1,31 @@
 -- A configuration whose parts are not refused is sound.
-use Rattle.std.proofs.Common.{◌≡◌, ℕ, ◌+◌, ◌-◌, ◌%◌, ◌<◌, ◌≤◌, Bool, true, false, ◌&&◌, List, [], ◌∷◌, ◌++◌, map, length, Option, Some, None, Result, Ok, Err, refl, sym, subst, ◌∙◌, ap, arith}
+use Rattle.std.proofs.Common.{◌≡◌, ℕ, ◌-◌, ◌%◌, ◌<◌, ◌≤◌, true, ◌&&◌, List, [], ◌∷◌, map, length, Option, None, refl, sym, subst, ◌∙◌, ap, arith}
 use Rattle.std.specs.Prelude.{nat_eq, not, unwrap_or}
 use Rattle.std.specs.List.{AllByRecursion, filter_map, list_all}
-use Rattle.std.specs.Option.{option_or}
 use Rattle.std.proofs.lemmas.Bool.{and_parts, eqb-true, not-false}
 use Rattle.std.proofs.lemmas.List.{length-map}
 use Rattle.addr_base.specs.declared.identity.Line.{Line}
 use Rattle.addr_base.specs.declared.ranges.Range.{Range}
 use Rattle.addr_base.specs.Range.{holds_bytes}
 use Rattle.flat_model.specs.declared.boards.Board.{Board}
-use Rattle.flat_model.specs.declared.parts.Config.{Config}
 use Rattle.flat_model.specs.declared.parts.DevicePart.{DevicePart}
 use Rattle.flat_model.specs.declared.parts.RpcGate.{RpcGate}
 use Rattle.flat_model.specs.declared.parts.ScriptWord.{ScriptWord}
 use Rattle.flat_model.specs.declared.parts.ScriptWord.TheVariants as word
 use Rattle.flat_model.specs.declared.refusals.Refused.{Refused}
 use Rattle.flat_model.specs.declared.texts.BoxText.{BoxText}
-use Rattle.flat_model.specs.declared.texts.GateTexts.{GateTexts}
 use Rattle.flat_model.specs.declared.texts.RegText.{RegText}
 use Rattle.flat_model.specs.declared.texts.RpcText.{RpcText}
 use Rattle.flat_model.specs.Names.{AreDistinctNames}
-use Rattle.flat_model.specs.Placing.{common_range, limit_of, placed_end}
+use Rattle.flat_model.specs.Placing.{common_range, limit_of}
 use Rattle.flat_model.specs.Sound.{AreDistinct, IsBox, IsRegister, IsScriptWord, IsSound, IsWithinLimits}
 use Rattle.flat_model.specs.Want.{is_owned_line}
-use Rattle.acl_resolver.specs.Naming.{all_named, bad_callers, bad_device, bad_device_at, bad_gateway, bad_register, bad_register_at, box_named, is_owned, is_register_address, no_server, script_words, word_of_text}
-use Rattle.acl_resolver.specs.Refusals.{bad_grant, bad_grant_of, clash, common_behind, first_numbered, grant_outside, is_line_of_some, line_taken, no_room, outside_of, own_end, self_overlap, self_overlap_of}
+use Rattle.acl_resolver.specs.Naming.{all_named, bad_device, bad_device_at, bad_gateway, bad_register, bad_register_at, box_named, is_owned, is_register_address, script_words, word_of_text}
+use Rattle.acl_resolver.specs.Refusals.{bad_grant, bad_grant_of, common_behind, first_numbered, grant_outside, is_line_of_some, line_taken, no_room, outside_of, self_overlap, self_overlap_of}
 use Rattle.acl_resolver.specs.Resolvable.{IsResolvable, threads_of}
-use Rattle.acl_resolver.specs.Resolve.{Parts, bad_program, bad_program_of, box_parts, call_gate, configuration_of, naming_refusal, placing_refusal, refusal_of, register_gate, thread_parts}
+use Rattle.acl_resolver.specs.Resolve.{Parts, bad_program, bad_program_of, box_parts, call_gate, configuration_of, naming_refusal, placing_refusal, refusal_of, register_gate}
 use Rattle.acl_resolver.proofs.BoxLemmas.{HasGrants, HasPrograms, boxes_lines, boxes_many, boxes_named, boxes_numbered, boxes_own, boxes_owning, boxes_sound, threads_homes, threads_many, threads_sound, threads_steps}
-use Rattle.acl_resolver.proofs.LineLemmas.{lines_distinct, lines_of}
+use Rattle.acl_resolver.proofs.LineLemmas.{lines_distinct}
 use Rattle.acl_resolver.proofs.PlaceLemmas.{board_limit, boxes_end, boxes_placed, within_limit}
 use Rattle.acl_resolver.proofs.Unrefused.{all_both, all_made, all_passed, all_weaker, each_numbered, few_given, neither, not_refused}
 use Rattle.acl_resolver.proofs.WordLemmas.{IsThere, few_rings, target_below, words_there}
@@ -101,17 +98,17 @@ granted : (parts : Parts) → AreUnrefused parts → AllByRecursion (HasGrants p
 granted parts none =
     let outside = outside_of parts.board (common_behind parts.board parts.boxes) in
     all_weaker (λ b. Passes bad_grant_of b × (Passes outside b × Passes self_overlap_of b)) (HasGrants parts.board (common_behind parts.board parts.boxes))
-      (λ b facts. record {
-        first = facts.0.0;
-        good = facts.0.1;
-        second = facts.1.0.0;
-        within = facts.1.0.1;
-        third = facts.1.1.0;
-        apart = facts.1.1.1;
-      })
-      parts.boxes
-      (all_both (Passes bad_grant_of) (λ b. Passes outside b × Passes self_overlap_of b) parts.boxes (passed bad_grant_of parts.boxes none.grants)
-        (all_both (Passes outside) (Passes self_overlap_of) parts.boxes (passed outside parts.boxes none.within) (passed self_overlap_of parts.boxes none.apart)))
+    (λ b facts. record {
+      first = facts.0.0;
+      good = facts.0.1;
+      second = facts.1.0.0;
+      within = facts.1.0.1;
+      third = facts.1.1.0;
+      apart = facts.1.1.1;
+    })
+    parts.boxes
+    (all_both (Passes bad_grant_of) (λ b. Passes outside b × Passes self_overlap_of b) parts.boxes (passed bad_grant_of parts.boxes none.grants)
+    (all_both (Passes outside) (Passes self_overlap_of) parts.boxes (passed outside parts.boxes none.within) (passed self_overlap_of parts.boxes none.apart)))
 
 programmed : (parts : Parts) → AreUnrefused parts → AllByRecursion HasPrograms parts.boxes
 programmed parts none =
@@ -121,7 +118,7 @@ common_same : (board : Board) (boxes : List BoxText) → common_range board (box
 common_same board boxes = ap (λ (end : ℕ). record { base = end; len = limit_of board - end }) (boxes_end board board.sram.base 0 boxes)
 
 all_boxes : (parts : Parts) → IsResolvable parts → AreUnrefused parts
-  → AllByRecursion (IsBox parts.board (common_range parts.board (box_parts parts.board parts.board.sram.base 0 parts.boxes))) (box_parts parts.board parts.board.sram.base 0 parts.boxes)
+    → AllByRecursion (IsBox parts.board (common_range parts.board (box_parts parts.board parts.board.sram.base 0 parts.boxes))) (box_parts parts.board parts.board.sram.base 0 parts.boxes)
 all_boxes parts is none =
     subst (λ (common : Range). AllByRecursion (IsBox parts.board common) (box_parts parts.board parts.board.sram.base 0 parts.boxes)) (sym (common_same parts.board parts.boxes))
     (boxes_sound parts.board (common_behind parts.board parts.boxes) parts.board.sram.base 0 parts.boxes is.boxes (granted parts none))
@@ -137,10 +134,10 @@ all_registers : (parts : Parts) → AreUnrefused parts → AllByRecursion (IsReg
 all_registers parts none =
     all_made (register_gate parts.boxes) (IsRegister parts.board) parts.gates.registers
     (each_numbered (bad_register_at parts.board parts.boxes) (λ gate. IsRegister parts.board (register_gate parts.boxes gate))
-      (register_sound parts.board parts.boxes) 0 parts.gates.registers none.registers)
+    (register_sound parts.board parts.boxes) 0 parts.gates.registers none.registers)
 
 all_gateways : (n : ℕ) (boxes : List BoxText) (gateways : List RpcText) → n ≡ length boxes → 1 ≤ length boxes
-  → AllByRecursion (λ (gate : RpcGate). gate.target.0 < n) (map (call_gate boxes) gateways)
+    → AllByRecursion (λ (gate : RpcGate). gate.target.0 < n) (map (call_gate boxes) gateways)
 all_gateways n boxes [] same some = tt
 all_gateways n boxes (gate ∷ gateways) same some = (subst (λ m. unwrap_or (box_named boxes gate.target) 0 < m) (sym same) (target_below boxes gate.target some), all_gateways n boxes gateways same some)
 
@@ -149,14 +146,14 @@ unfolding configuration_of
 owned_same parts line = boxes_own parts.board parts.board.sram.base 0 parts.boxes line
 
 device_sound : (parts : Parts) (d : ℕ) (device : DevicePart) → bad_device_at parts.boxes d device ≡ None
-  → AllByRecursion (λ (line : Line). is_owned_line (configuration_of parts) line.0 ≡ true) device.rings
+    → AllByRecursion (λ (line : Line). is_owned_line (configuration_of parts) line.0 ≡ true) device.rings
 device_sound parts d device h =
     let good = not-false (list_all (is_owned parts.boxes) device.rings) (not_refused (not (list_all (is_owned parts.boxes) device.rings)) _ h) in
     all_weaker (λ (line : Line). is_owned parts.boxes line ≡ true) (λ (line : Line). is_owned_line (configuration_of parts) line.0 ≡ true)
-      (λ line here. owned_same parts line.0 ∙ here) device.rings (all_passed (is_owned parts.boxes) device.rings good)
+    (λ line here. owned_same parts line.0 ∙ here) device.rings (all_passed (is_owned parts.boxes) device.rings good)
 
 all_devices : (parts : Parts) → AreUnrefused parts
-  → AllByRecursion (λ (device : DevicePart). AllByRecursion (λ (line : Line). is_owned_line (configuration_of parts) line.0 ≡ true) device.rings) parts.devices
+    → AllByRecursion (λ (device : DevicePart). AllByRecursion (λ (line : Line). is_owned_line (configuration_of parts) line.0 ≡ true) device.rings) parts.devices
 all_devices parts none = each_numbered (bad_device_at parts.boxes) _ (device_sound parts) 0 parts.devices none.devices
 
 word_sound : (parts : Parts) (w : ScriptWord) → IsThere (threads_of parts.boxes) parts.boxes w → IsScriptWord (configuration_of parts) w
@@ -167,7 +164,7 @@ word_sound parts (word.Ring line) there = boxes_own parts.board parts.board.sram
 all_script : (parts : Parts) → AllByRecursion (IsScriptWord (configuration_of parts)) (filter_map (word_of_text (script_words parts.boxes)) parts.script)
 all_script parts =
     all_weaker (IsThere (threads_of parts.boxes) parts.boxes) (IsScriptWord (configuration_of parts)) (word_sound parts)
-      (filter_map (word_of_text (script_words parts.boxes)) parts.script) (words_there parts.boxes parts.script)
+    (filter_map (word_of_text (script_words parts.boxes)) parts.script) (words_there parts.boxes parts.script)
 
 -- the configuration of parts that are not refused is sound
 pub configuration_sound : (parts : Parts) → IsResolvable parts → refusal_of parts ≡ None → IsSound (configuration_of parts)

@@ -1,5 +1,5 @@
 -- What it says of the items of a list that none of them is refused.
-use Rattle.std.proofs.Common.{◌≡◌, ℕ, ◌+◌, ◌≤◌, arith, length, subst, Bool, true, false, ◌&&◌, cond, List, [], ◌∷◌, ◌++◌, map, Option, Some, None, refl, inl, inr, ◌⊎◌}
+use Rattle.std.proofs.Common.{◌≡◌, ℕ, ◌+◌, ◌≤◌, arith, length, subst, Bool, true, false, cond, List, [], ◌∷◌, ◌++◌, map, Option, Some, None, refl, inl, inr, ◌⊎◌}
 use Rattle.std.specs.Prelude.{find}
 use Rattle.std.specs.List.{AllByRecursion, cons_option, filter_map, list_all}
 use Rattle.std.specs.Option.{option_or}
@@ -20,7 +20,7 @@ not_refused false r h = refl
 
 -- no item of a list is refused
 pub each_numbered : {A : Type 0} (f : ℕ → A → Option Refused) (P : A → Type 0) → ((n : ℕ) (x : A) → f n x ≡ None → P x)
-  → (i : ℕ) (xs : List A) → first_numbered f i xs ≡ None → AllByRecursion P xs
+    → (i : ℕ) (xs : List A) → first_numbered f i xs ≡ None → AllByRecursion P xs
 each_numbered f P says i [] h = tt
 each_numbered f P says i (x ∷ xs) h =
     let both = neither (f (number i) x) (first_numbered f (i + 1) xs) h in

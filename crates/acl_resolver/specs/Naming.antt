@@ -1,12 +1,11 @@
 -- What names stand for: boxes, and the words of a script.
-use Rattle.std.specs.Prelude.{ℕ, ◌+◌, ◌%◌, ◌^◌, Bool, ◌&&◌, not, nat_eq, is_none, is_some, Option, List, [], ◌∷◌, ◌++◌, map, length, codes, find, if◌then◌else◌, unwrap_or}
+use Rattle.std.specs.Prelude.{ℕ, ◌+◌, ◌%◌, ◌^◌, Bool, ◌&&◌, not, nat_eq, is_none, is_some, Option, List, [], ◌∷◌, ◌++◌, map, length, codes, find, if◌then◌else◌}
 use Rattle.std.specs.Fmt.{decimal}
 use Rattle.std.specs.List.{list_all, list_any, position_from}
 use Rattle.std.specs.Option.{option_map, option_or}
 use Rattle.std.specs.Str.{bytes_eq}
 use Rattle.addr_base.specs.Range.{holds_bytes}
 use Rattle.addr_base.specs.declared.identity.Line.{Line}
-use Rattle.addr_base.specs.declared.identity.ThreadId.{ThreadId}
 use Rattle.flat_model.specs.declared.boards.Board.{Board}
 use Rattle.flat_model.specs.declared.parts.DevicePart.{DevicePart}
 use Rattle.flat_model.specs.declared.parts.IrqPart.{IrqPart}

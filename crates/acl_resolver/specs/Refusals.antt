@@ -4,7 +4,7 @@ use Rattle.std.specs.List.{list_any}
 use Rattle.std.specs.Option.{option_and_then, option_or}
 use Rattle.addr_base.specs.declared.ranges.Range.{Range}
 use Rattle.addr_base.specs.Powers.{round_down, round_up}
-use Rattle.addr_base.specs.Range.{end_of, holds_bytes, overlap}
+use Rattle.addr_base.specs.Range.{end_of, overlap}
 use Rattle.flat_model.specs.declared.boards.Board.{Board}
 use Rattle.flat_model.specs.declared.parts.IrqPart.{IrqPart}
 use Rattle.flat_model.specs.declared.refusals.Refused.{Refused}
@@ -99,9 +99,9 @@ is_inside inner outer = nat_le outer.base inner.base && nat_le (end_of inner) (e
 -- the common part of SRAM, behind the boxes' own memory
 abbrev pub common_behind : Board → List BoxText → Range
 common_behind board boxes = record {
-    base = own_end board.sram.base boxes;
-    len = limit_of board - own_end board.sram.base boxes;
-  }
+  base = own_end board.sram.base boxes;
+  len = limit_of board - own_end board.sram.base boxes;
+}
 
 -- whether the range lies in the peripherals or in the common part
 abbrev pub is_grantable : Board → Range → Range → Bool

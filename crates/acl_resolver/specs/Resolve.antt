@@ -2,7 +2,6 @@
 use Rattle.std.specs.Prelude.{⊤, ◌≡◌, ℕ, ◌+◌, Bool, unwrap_or, length, Option, Some, None, List, [], ◌∷◌, ◌++◌, map, Result, Ok, Err}
 use Rattle.std.specs.List.{filter_map}
 use Rattle.std.specs.Option.{option_or}
-use Rattle.addr_base.specs.declared.identity.BoxId.{BoxId}
 use Rattle.addr_base.specs.declared.ranges.Range.{Range}
 use Rattle.addr_base.specs.Range.{end_of}
 use Rattle.box_program.specs.Program.{program}
@@ -15,7 +14,6 @@ use Rattle.flat_model.specs.declared.parts.DevicePart.{DevicePart}
 use Rattle.flat_model.specs.declared.parts.Item.{Item}
 use Rattle.flat_model.specs.declared.parts.RegGate.{RegGate}
 use Rattle.flat_model.specs.declared.parts.RpcGate.{RpcGate}
-use Rattle.flat_model.specs.declared.parts.ScriptWord.{ScriptWord}
 use Rattle.flat_model.specs.declared.parts.ThreadPart.{ThreadPart}
 use Rattle.flat_model.specs.declared.refusals.ConfigErr.{ConfigErr}
 use Rattle.flat_model.specs.declared.refusals.ConfigErr.TheVariants as config_err
@@ -99,16 +97,16 @@ box_items board own secret grants =
 -- a box whose own memory is this and whose first thread has the number t
 abbrev pub box_part : Board → Range → ℕ → BoxText → BoxPart
 box_part board own t b = record {
-    name = b.name;
-    own = own;
-    secret = b.secret;
-    first = t;
-    threads = length b.threads;
-    server = record { 0 = t + b.server };
-    items = box_items board own b.secret (map grant_item b.grants);
-    grants = map grant_item b.grants;
-    irqs = b.irqs;
-  }
+  name = b.name;
+  own = own;
+  secret = b.secret;
+  first = t;
+  threads = length b.threads;
+  server = record { 0 = t + b.server };
+  items = box_items board own b.secret (map grant_item b.grants);
+  grants = map grant_item b.grants;
+  irqs = b.irqs;
+}
 
 -- the boxes, placed one after another from an address on, with threads numbered from t on
 abbrev pub box_parts : Board → ℕ → ℕ → List BoxText → List BoxPart
@@ -125,10 +123,10 @@ instructions_of (Err bad) = []
 -- a thread of the box with this number
 abbrev pub thread_part : ℕ → ThreadText → ThreadPart
 thread_part i thread = record {
-    home = record { 0 = i };
-    program = instructions_of (program thread.program);
-    steps = thread.steps;
-  }
+  home = record { 0 = i };
+  program = instructions_of (program thread.program);
+  steps = thread.steps;
+}
 
 -- the threads of boxes, the first of which has the number i
 abbrev pub thread_parts : ℕ → List BoxText → List ThreadPart
@@ -142,23 +140,23 @@ register_gate boxes gate = record { at = gate.at; op = gate.op; mask = gate.mask
 -- a gateway for calls, with its names as a box and a set of boxes
 abbrev pub call_gate : List BoxText → RpcText → RpcGate
 call_gate boxes gate = record {
-    target = record { 0 = unwrap_or (box_named boxes gate.target) 0 };
-    function = gate.function;
-    callers = set_of_names 0 boxes gate.callers;
-  }
+  target = record { 0 = unwrap_or (box_named boxes gate.target) 0 };
+  function = gate.function;
+  callers = set_of_names 0 boxes gate.callers;
+}
 
 -- the configuration of parts that are not refused
 unfoldable pub configuration_of : Parts → Config
 configuration_of parts = record {
-    version = 1;
-    board = parts.board;
-    boxes = box_parts parts.board parts.board.sram.base 0 parts.boxes;
-    threads = thread_parts 0 parts.boxes;
-    registers = map (register_gate parts.boxes) parts.gates.registers;
-    gateways = map (call_gate parts.boxes) parts.gates.gateways;
-    devices = parts.devices;
-    script = filter_map (word_of_text (script_words parts.boxes)) parts.script;
-  }
+  version = 1;
+  board = parts.board;
+  boxes = box_parts parts.board parts.board.sram.base 0 parts.boxes;
+  threads = thread_parts 0 parts.boxes;
+  registers = map (register_gate parts.boxes) parts.gates.registers;
+  gateways = map (call_gate parts.boxes) parts.gates.gateways;
+  devices = parts.devices;
+  script = filter_map (word_of_text (script_words parts.boxes)) parts.script;
+}
 
 -- the first refusal where there is one, else the configuration
 abbrev pub configured : Parts → Option Refused → Result Config Refused

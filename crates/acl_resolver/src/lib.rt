@@ -11,6 +11,8 @@ mod placing;
 mod script;
 mod spelling;
 mod stages;
+#[cfg(test)]
+mod tests;
 mod threads;
 mod words;
 
@@ -21,12 +23,11 @@ ghost use Rattle.acl_resolver.specs.Resolvable.{IsResolvable};
 ghost use Rattle.acl_resolver.specs.Resolve.{parts_of, resolution_of};
 
 use boxes::box_parts;
+pub use flat_model::Config;
 use flat_model::{Board, BoxText, ConfigErr, DevicePart, GateTexts, Items};
 use gateways::{call_gates, register_gates};
 use stages::{naming_refusal, or_memory, placing_refusal, scripted, unless_refused};
 use std::alloc::Global;
-
-pub use flat_model::Config;
 
 /// The configuration of a firmware's parts, or their first refusal (docs/INPUT.md).
 pub fn resolve(

@@ -55,19 +55,19 @@ pub fn limit_of(board: &Board) -> u64
 
 /// Where the last own memory ends, unless the own memory of some box would pass the limit.
 pub fn placed_end(board: &Board, boxes: &[BoxText]) -> Result<u64, Refused>
-    ensures {
-        result
+    ensures { result
         ≡ unless_refused
-            (no_room (limit_of board.now) board.now.sram.base 0 boxes.now)
-            (own_end board.now.sram.base boxes.now)
-    }
+        (no_room (limit_of board.now) board.now.sram.base 0 boxes.now)
+        (own_end board.now.sram.base boxes.now) }
 {
     let limit = limit_of(board);
     let mut start = board.sram.base as u64;
     for (i, part) in boxes.iter().enumerate() {
         let end = end_after(start, part.size);
         if end > limit {
-            return Err(Refused::NoRoom { at_box: numbered(i) });
+            return Err(Refused::NoRoom {
+                at_box: numbered(i),
+            });
         }
         start = end;
     }

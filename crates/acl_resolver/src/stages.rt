@@ -17,19 +17,19 @@ use crate::script::script_of;
 use crate::threads::thread_parts;
 use crate::words::script_words;
 use addr_base::Range;
-use flat_model::{Board, BoxText, ConfigErr, DevicePart, GateTexts, Refused, ScriptWord, ThreadPart};
+use flat_model::{
+    Board, BoxText, ConfigErr, DevicePart, GateTexts, Refused, ScriptWord, ThreadPart,
+};
 use std::alloc::{AllocError, Global};
 
 // The first refusal of the grants, over the common part.
 fn grants_refusal(board: &Board, common: Range, boxes: &[BoxText]) -> Option<Refused>
     requires { common ≡ common_behind board.now boxes.now }
-    ensures {
-        result
+    ensures { result
         ≡ option_or (bad_grant boxes.now)
-            (option_or (grant_outside board.now boxes.now)
-            (option_or (self_overlap boxes.now)
-            (clash boxes.now)))
-    }
+        (option_or (grant_outside board.now boxes.now)
+        (option_or (self_overlap boxes.now)
+        (clash boxes.now))) }
 {
     if let Some(refused) = bad_grant(boxes) {
         return Some(refused);
@@ -126,24 +126,18 @@ pub fn scripted(
 ) -> Result<Programmed, ConfigErr>
     requires few_boxes { length boxes.now ≤ 8 }
     requires few_threads { threads_of boxes.now ≤ 16 }
-    ensures none {
-        OnOk result
-          (option_or (bad_program boxes.now)
-            (option_or (bad_device boxes.now devices.now)
-            (bad_script boxes.now (map string_bytes script.now)))
-          ≡ None)
-    }
+    ensures none { OnOk result
+        (option_or (bad_program boxes.now)
+        (option_or (bad_device boxes.now devices.now)
+        (bad_script boxes.now (map string_bytes script.now)))
+        ≡ None) }
     ensures threads { IfOk result (λ made. made.threads.items ≡ thread_parts 0 boxes.now) }
-    ensures script {
-        IfOk result (λ made. made.script.items ≡ filter_map (word_of_text (script_words boxes.now)) (map string_bytes script.now))
-    }
-    ensures err {
-        IfErr result
-          (IsDue
-            (option_or (bad_program boxes.now)
-            (option_or (bad_device boxes.now devices.now)
-            (bad_script boxes.now (map string_bytes script.now)))))
-    }
+    ensures script { IfOk result (λ made. made.script.items ≡ filter_map (word_of_text (script_words boxes.now)) (map string_bytes script.now)) }
+    ensures err { IfErr result
+        (IsDue
+        (option_or (bad_program boxes.now)
+        (option_or (bad_device boxes.now devices.now)
+        (bad_script boxes.now (map string_bytes script.now))))) }
 {
     let threads = thread_parts(alloc, boxes)?;
     let script = words_of(alloc, boxes, devices, script)?;

@@ -7,6 +7,6 @@ use Rattle.acl_resolver.proofs.script.script_of.Given as goal
 
 abbrev pub invariant-loop-at : goal.invariant-loop-at
 invariant-loop-at l = record {
-    due : first_numbered (bad_word_at l.table) l.at (map string_bytes (drop l.at l.script)) ≡ first_numbered (bad_word_at l.table) 0 (map string_bytes l.script);
-    same : l.words.items ++ filter_map (word_of_text l.table) (map string_bytes (drop l.at l.script)) ≡ filter_map (word_of_text l.table) (map string_bytes l.script);
-  }
+  due : first_numbered (bad_word_at l.table) l.at (map string_bytes (drop l.at l.script)) ≡ first_numbered (bad_word_at l.table) 0 (map string_bytes l.script);
+  same : l.words.items ++ filter_map (word_of_text l.table) (map string_bytes (drop l.at l.script)) ≡ filter_map (word_of_text l.table) (map string_bytes l.script);
+}

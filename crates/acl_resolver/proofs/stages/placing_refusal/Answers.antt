@@ -1,4 +1,4 @@
-use Rattle.std.proofs.Common.{◌≡◌, ◌≤◌, sym, subst, ◌∙◌}
+use Rattle.std.proofs.Common.{◌≤◌, sym, subst, ◌∙◌}
 use Rattle.flat_model.specs.Placing.{limit_of}
 use Rattle.acl_resolver.specs.Refusals.{no_room, own_end}
 use Rattle.acl_resolver.proofs.Due.{unless_ok}

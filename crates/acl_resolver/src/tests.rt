@@ -1,0 +1,4 @@
+mod fixtures;
+mod later;
+mod places;
+mod whole;
