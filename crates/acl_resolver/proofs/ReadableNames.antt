@@ -11,13 +11,6 @@ use Rattle.flat_model.specs.declared.texts.BoxText.{BoxText}
 use Rattle.box_config.specs.Names as names
 use Rattle.acl_resolver.proofs.ReadablePlaces.{both_none}
 
-same_name : (text : List ℕ) → names.is_name text ≡ true → is_name text ≡ true
-same_name [] named = named
-same_name (c ∷ cs) named =
-    let parts = and_parts (names.is_letter c) (nat_le (length cs) 15 && list_all names.is_name_byte cs) named in
-    let others = and_parts (nat_le (length cs) 15) (list_all names.is_name_byte cs) parts.1 in
-    rw (parts.0, others.0, others.1) refl
-
 no_index : (bad : Bool) (n : ℕ) (o : Option ℕ) → (if bad then Some n else o) ≡ None → (bad ≡ false) × (o ≡ None)
 no_index true n o none = absurd (cc)
 no_index false n o none = (refl, none)
@@ -27,7 +20,7 @@ not_mapped f None none = refl
 not_mapped f (Some x) none = absurd (cc)
 
 abbrev has_bad_name : BoxText → Bool
-has_bad_name b = not (names.is_name b.name)
+has_bad_name b = not (is_name b.name)
 
 abbrev is_twice_named : List BoxText → BoxText → Bool
 is_twice_named earlier b = names.is_named_among b.name earlier
@@ -36,7 +29,7 @@ all_named : (i : ℕ) (boxes : List BoxText) → first_index has_bad_name i boxe
 all_named i [] none = tt
 all_named i (b ∷ boxes) none =
     let parts = no_index (has_bad_name b) (number i) (first_index has_bad_name (i + 1) boxes) none in
-    (same_name b.name (not-false _ parts.0), all_named (i + 1) boxes parts.1)
+    (not-false _ parts.0, all_named (i + 1) boxes parts.1)
 
 not_at : (name : List ℕ) (before : List BoxText) (b : BoxText) (behind : List BoxText) → names.is_named_among name (before ++ b ∷ behind) ≡ false → bytes_eq b.name name ≡ false
 not_at name [] b behind none = (or_parts (bytes_eq b.name name) (names.is_named_among name behind) none).0

@@ -193,7 +193,6 @@ rotate-line u pair r is slot = ap (rotate_lines u) is ∙ ap (λ n. line.Rotate 
 
 module _ (cfg : Config) (owners read : List (Option BoxId)) (b : ℕ) (part : BoxPart) (u : UnitState) (access : Access)
     (denied : decision u.pairs access.at access.kind ≡ Denied) (same : read ≡ owners) where
-
   rotating-read : rotating_pair (plan_of cfg owners b part) u access ≡ first_serving access.at access.kind (plan_of cfg read b part)
   rotating-read =
       rotating-denied (plan_of cfg owners b part) u access denied

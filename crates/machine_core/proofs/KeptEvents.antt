@@ -75,8 +75,10 @@ lines-short : (cfg : Config) (b : BoxId) (part : BoxPart) (plan : List Pair) (u 
 lines-short cfg b part plan u access =
     let first = switch-short u b in
     let second = access-short plan (entered cfg part u b) access in
-    rw (append-nil (switch_lines u b ++ access_lines plan (entered cfg part u b) access),
-        length-append (switch_lines u b) (access_lines plan (entered cfg part u b) access)) (omega arith)
+    rw (
+      append-nil (switch_lines u b ++ access_lines plan (entered cfg part u b) access),
+      length-append (switch_lines u b) (access_lines plan (entered cfg part u b) access),
+    ) (omega arith)
 
 module _ (cfg : Config) (w : World) (t : ThreadId) (thread : ThreadPart) (th : ThreadState)
     (there : slice_get cfg.threads t.0 ≡ Some thread) (here : slice_get w.flat.threads t.0 ≡ Some th) where

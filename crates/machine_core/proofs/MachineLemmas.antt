@@ -138,11 +138,11 @@ module _ (cfg : Config) (drive : Drive) (extra : ℕ) (items : List Logged) (w :
   -- the log is legal
   pub legal-kept : IsLegal cfg (record { items = items; ends = ends_of w.flat })
   legal-kept = record {
-      flat = flat-kept;
-      unit = unit-kept;
-      agree = ap (λ xs. list_all is_agreed (events_of xs)) kept.traced
-          ∙ trace-agrees cfg (opening_world cfg) (choices_of items) kept.sound (IsWorldReady-opening cfg);
-    }
+    flat = flat-kept;
+    unit = unit-kept;
+    agree = ap (λ xs. list_all is_agreed (events_of xs)) kept.traced
+        ∙ trace-agrees cfg (opening_world cfg) (choices_of items) kept.sound (IsWorldReady-opening cfg);
+  }
 
   -- the log is the one log of its choices
   pub one-kept : record { items = items; ends = ends_of w.flat } ≡ log_of_choices cfg (choices_of items)

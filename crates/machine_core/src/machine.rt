@@ -44,7 +44,7 @@ impl Model for Machine {
     ghost view = { λ m. record { config = m.config; drive = m.drive; extra = m.extra; items = m.items.items } };
 
     ghost invariant = { λ m. IsKept m.config m.drive m.extra m.items.items (record { flat = m.flat; unit = m.rotator.unit }) (vec_capacity m.items)
-            × (m.rotator ≡ rotation_of m.config m.rotator.unit)
+        × (m.rotator ≡ rotation_of m.config m.rotator.unit)
         × HasEnds m.config m.ends.items (vec_capacity m.ends) };
 }
 

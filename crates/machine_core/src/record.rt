@@ -11,8 +11,8 @@ ghost use Rattle.machine_core.specs.Kept.{HasOwners};
 ghost use Rattle.region_rotation.specs.Rotation.{rotation_of};
 
 use flat_model::{
-    Access, BoxId, BoxPart, Choice, Config, Entry, Flat, Items, Logged, ThreadId, UnitLine, Verdict,
-    has_ended, program_of, thread_of, touch_at, turn_at,
+    Access, BoxId, BoxPart, Choice, Config, Entry, Flat, Items, Logged, ThreadId, UnitLine,
+    Verdict, has_ended, program_of, thread_of, touch_at, turn_at,
 };
 use region_rotation::Rotator;
 
@@ -35,18 +35,12 @@ fn record_switch(
 )
     requires rotation { rotator.old ≡ rotation_of cfg.now rotator.old.unit }
     requires found { slice_get cfg.now.boxes b.0 ≡ Some part.now }
-    requires room {
-        length items.old.items + length (unit_words.switch_lines rotator.old.unit b)
-            ≤ vec_capacity items.old
-    }
+    requires room { length items.old.items + length (unit_words.switch_lines rotator.old.unit b)
+        ≤ vec_capacity items.old }
 
-    ensures rotation {
-        rotator.new ≡ rotation_of cfg.now (unit_words.entered cfg.now part.now rotator.old.unit b)
-    }
+    ensures rotation { rotator.new ≡ rotation_of cfg.now (unit_words.entered cfg.now part.now rotator.old.unit b) }
     ensures last { rotator.new.unit.last ≡ Some b }
-    ensures items {
-        items.new.items ≡ items.old.items ++ map item.Unit (unit_words.switch_lines rotator.old.unit b)
-    }
+    ensures items { items.new.items ≡ items.old.items ++ map item.Unit (unit_words.switch_lines rotator.old.unit b) }
     ensures capacity { vec_capacity items.old ≤ vec_capacity items.new }
 {
     if rotator.enter(b) {
@@ -68,21 +62,15 @@ fn record_rotation(
     requires last { rotator.old.unit.last ≡ Some b }
     requires found { slice_get cfg.now.boxes b.0 ≡ Some part.now }
     requires owners { HasOwners cfg.now.board.heap owners.now }
-    requires room {
-        length items.old.items
-            + length (unit_words.rotate_lines rotator.old.unit
-                (unit_words.rotating_pair (plan_of cfg.now owners.now b.0 part.now) rotator.old.unit access))
-            ≤ vec_capacity items.old
-    }
+    requires room { length items.old.items
+        + length (unit_words.rotate_lines rotator.old.unit
+        (unit_words.rotating_pair (plan_of cfg.now owners.now b.0 part.now) rotator.old.unit access))
+        ≤ vec_capacity items.old }
 
-    ensures rotation {
-        rotator.new ≡ rotation_of cfg.now (unit_words.rotated rotator.old.unit
-            (unit_words.rotating_pair (plan_of cfg.now owners.now b.0 part.now) rotator.old.unit access))
-    }
-    ensures items {
-        items.new.items ≡ items.old.items ++ map item.Unit (unit_words.rotate_lines rotator.old.unit
-            (unit_words.rotating_pair (plan_of cfg.now owners.now b.0 part.now) rotator.old.unit access))
-    }
+    ensures rotation { rotator.new ≡ rotation_of cfg.now (unit_words.rotated rotator.old.unit
+        (unit_words.rotating_pair (plan_of cfg.now owners.now b.0 part.now) rotator.old.unit access)) }
+    ensures items { items.new.items ≡ items.old.items ++ map item.Unit (unit_words.rotate_lines rotator.old.unit
+        (unit_words.rotating_pair (plan_of cfg.now owners.now b.0 part.now) rotator.old.unit access)) }
     ensures capacity { vec_capacity items.old ≤ vec_capacity items.new }
 {
     match rotator.decide(access.at, access.kind) {
@@ -113,20 +101,14 @@ fn record_access(
     requires last { rotator.old.unit.last ≡ Some b }
     requires found { slice_get cfg.now.boxes b.0 ≡ Some part.now }
     requires owners { HasOwners cfg.now.board.heap owners.now }
-    requires room {
-        length items.old.items
-            + length (unit_words.access_lines (plan_of cfg.now owners.now b.0 part.now) rotator.old.unit access)
-            ≤ vec_capacity items.old
-    }
+    requires room { length items.old.items
+        + length (unit_words.access_lines (plan_of cfg.now owners.now b.0 part.now) rotator.old.unit access)
+        ≤ vec_capacity items.old }
 
-    ensures rotation {
-        rotator.new ≡ rotation_of cfg.now
-            (unit_words.accessed (plan_of cfg.now owners.now b.0 part.now) rotator.old.unit access)
-    }
-    ensures items {
-        items.new.items ≡ items.old.items ++ map item.Unit
-            (unit_words.access_lines (plan_of cfg.now owners.now b.0 part.now) rotator.old.unit access)
-    }
+    ensures rotation { rotator.new ≡ rotation_of cfg.now
+        (unit_words.accessed (plan_of cfg.now owners.now b.0 part.now) rotator.old.unit access) }
+    ensures items { items.new.items ≡ items.old.items ++ map item.Unit
+        (unit_words.access_lines (plan_of cfg.now owners.now b.0 part.now) rotator.old.unit access) }
     ensures capacity { vec_capacity items.old ≤ vec_capacity items.new }
 {
     let Some(access) = access else {
@@ -180,22 +162,16 @@ fn record_box(
     requires rotation { rotator.old ≡ rotation_of cfg.now rotator.old.unit }
     requires found { slice_get cfg.now.boxes b.0 ≡ Some part.now }
     requires owners { HasOwners cfg.now.board.heap owners.now }
-    requires room {
-        length items.old.items
-            + length (unit_words.lines_of_event cfg.now b part.now
-                (plan_of cfg.now owners.now b.0 part.now) rotator.old.unit access false)
-            ≤ vec_capacity items.old
-    }
+    requires room { length items.old.items
+        + length (unit_words.lines_of_event cfg.now b part.now
+        (plan_of cfg.now owners.now b.0 part.now) rotator.old.unit access false)
+        ≤ vec_capacity items.old }
 
-    ensures rotation {
-        rotator.new ≡ rotation_of cfg.now (unit_words.unit_after_event cfg.now b part.now
-            (plan_of cfg.now owners.now b.0 part.now) rotator.old.unit access false)
-    }
-    ensures items {
-        items.new.items ≡ items.old.items
-            ++ map item.Unit (unit_words.lines_of_event cfg.now b part.now
-                (plan_of cfg.now owners.now b.0 part.now) rotator.old.unit access false)
-    }
+    ensures rotation { rotator.new ≡ rotation_of cfg.now (unit_words.unit_after_event cfg.now b part.now
+        (plan_of cfg.now owners.now b.0 part.now) rotator.old.unit access false) }
+    ensures items { items.new.items ≡ items.old.items
+        ++ map item.Unit (unit_words.lines_of_event cfg.now b part.now
+        (plan_of cfg.now owners.now b.0 part.now) rotator.old.unit access false) }
     ensures capacity { vec_capacity items.old ≤ vec_capacity items.new }
 {
     record_switch(cfg, rotator, b, part, items);
@@ -213,20 +189,14 @@ fn record_lines(
     requires today { RunsToday cfg.now }
     requires rotation { rotator.old ≡ rotation_of cfg.now rotator.old.unit }
     requires owners { HasOwners cfg.now.board.heap flat.now.shared.owners }
-    requires room {
-        length items.old.items
-            + length (unit_words.unit_lines cfg.now flat.now rotator.old.unit (Choice.Turn t true))
-            ≤ vec_capacity items.old
-    }
+    requires room { length items.old.items
+        + length (unit_words.unit_lines cfg.now flat.now rotator.old.unit (Choice.Turn t true))
+        ≤ vec_capacity items.old }
 
-    ensures rotation {
-        rotator.new ≡ rotation_of cfg.now
-            (unit_words.unit_after cfg.now flat.now rotator.old.unit (Choice.Turn t true))
-    }
-    ensures items {
-        items.new.items ≡ items.old.items
-            ++ map item.Unit (unit_words.unit_lines cfg.now flat.now rotator.old.unit (Choice.Turn t true))
-    }
+    ensures rotation { rotator.new ≡ rotation_of cfg.now
+        (unit_words.unit_after cfg.now flat.now rotator.old.unit (Choice.Turn t true)) }
+    ensures items { items.new.items ≡ items.old.items
+        ++ map item.Unit (unit_words.unit_lines cfg.now flat.now rotator.old.unit (Choice.Turn t true)) }
     ensures capacity { vec_capacity items.old ≤ vec_capacity items.new }
 {
     let Some(b) = acting_box(cfg, flat, t) else {
@@ -251,21 +221,15 @@ pub(crate) fn record_turn(
     requires rotation { rotator.old ≡ rotation_of cfg.now rotator.old.unit }
     requires owners { HasOwners cfg.now.board.heap flat.old.shared.owners }
     requires steps { ForSome (slice_get flat.old.threads t.0) CanStep }
-    requires room {
-        length items.old.items
-            + length (event_items cfg.now (record { flat = flat.old; unit = rotator.old.unit }) (Choice.Turn t true))
-            ≤ vec_capacity items.old
-    }
+    requires room { length items.old.items
+        + length (event_items cfg.now (record { flat = flat.old; unit = rotator.old.unit }) (Choice.Turn t true))
+        ≤ vec_capacity items.old }
 
-    ensures world {
-        world_after cfg.now (record { flat = flat.old; unit = rotator.old.unit }) (Choice.Turn t true)
-            ≡ record { flat = flat.new; unit = rotator.new.unit }
-    }
+    ensures world { world_after cfg.now (record { flat = flat.old; unit = rotator.old.unit }) (Choice.Turn t true)
+        ≡ record { flat = flat.new; unit = rotator.new.unit } }
     ensures rotation { rotator.new ≡ rotation_of cfg.now rotator.new.unit }
-    ensures items {
-        items.new.items ≡ items.old.items
-            ++ event_items cfg.now (record { flat = flat.old; unit = rotator.old.unit }) (Choice.Turn t true)
-    }
+    ensures items { items.new.items ≡ items.old.items
+        ++ event_items cfg.now (record { flat = flat.old; unit = rotator.old.unit }) (Choice.Turn t true) }
     ensures capacity { vec_capacity items.old ≤ vec_capacity items.new }
 {
     record_lines(cfg, flat, rotator, t, items);

@@ -1,12 +1,15 @@
 use crate::Machine;
 use flat_model::{
-    Board, BoxId, BoxPart, Choice, Config, Drive, End, Entry, Flaw, Instr, Item, Items, Kind, Logged,
-    Mode, OutOfMemory, Range, Reply, Rights, Text, ThreadId, ThreadPart, UnitLine, Verdict,
+    Board, BoxId, BoxPart, Choice, Config, Drive, End, Entry, Flaw, Instr, Item, Items, Kind,
+    Logged, Mode, OutOfMemory, Range, Reply, Rights, Text, ThreadId, ThreadPart, UnitLine, Verdict,
 };
 use std::alloc::Global;
 use std::test::Fail;
 
-const FLASH: Range = Range { base: 0, len: 0x10_0000 };
+const FLASH: Range = Range {
+    base: 0,
+    len: 0x10_0000,
+};
 
 const SRAM: Range = Range {
     base: 0x2000_0000,
@@ -53,7 +56,12 @@ fn part(alloc: Global, name: &str, base: u32, first: u8) -> Result<BoxPart, OutO
     })
 }
 
-fn thread(alloc: Global, home: u8, program: &[Instr], steps: u32) -> Result<ThreadPart, OutOfMemory> {
+fn thread(
+    alloc: Global,
+    home: u8,
+    program: &[Instr],
+    steps: u32,
+) -> Result<ThreadPart, OutOfMemory> {
     Ok(ThreadPart {
         home: BoxId(home),
         program: Items::from_vec(program.to_vec(alloc)?),
@@ -73,7 +81,10 @@ fn two_boxes(alloc: Global) -> Result<Config, OutOfMemory> {
     let asking = [Instr::BoxId(3), Instr::Halt];
     let prying = [Instr::Set(0, 0x2000_0000), Instr::Load32(1, 0, 0)];
     let turning = [Instr::Set(1, 1), Instr::Jump(0)];
-    let boxes = vec![in alloc; part(alloc, "a", 0x2000_0000, 0)?, part(alloc, "b", 0x2000_0100, 2)?]?;
+    let boxes = vec![in alloc;
+        part(alloc, "a", 0x2000_0000, 0)?,
+        part(alloc, "b", 0x2000_0100, 2)?,
+    ]?;
     let threads = vec![in alloc;
         thread(alloc, 0, &storing, 100)?,
         thread(alloc, 0, &asking, 100)?,

@@ -26,7 +26,7 @@ run_named cfg it log same sound legal = subst (λ c. IsNamed c log) (sym same) (
 pub run_told : (cfg it : Config) (log : Log) (written now : Option (List ℕ)) (before after status : ℕ) → it ≡ cfg → IsLegal cfg log → choices_of log.items ≡ script_choices cfg → IsTold (record { status = 0; text = text_of it log }) written now before after status → IsTold (record { status = 0; text = text_of cfg (script_log cfg) }) written now before after status
 run_told cfg it log written now before after status same legal chosen told =
     subst (λ l. IsTold (record { status = 0; text = text_of cfg l }) written now before after status) (one_script_log cfg log legal chosen)
-      (subst (λ c. IsTold (record { status = 0; text = text_of c log }) written now before after status) same told)
+    (subst (λ c. IsTold (record { status = 0; text = text_of c log }) written now before after status) same told)
 
 -- the script was run
 pub run_is : (cfg : Config) (log : Log) → IsLegal cfg log → choices_of log.items ≡ script_choices cfg → IsRun cfg

@@ -15,6 +15,7 @@ use Rattle.io_edge.specs.Taken.{Takes}
 use Rattle.uvisor_run.specs.declared.commands.Command.{Command}
 use Rattle.uvisor_run.specs.declared.commands.Command.TheVariants.{Check, Script}
 use Rattle.uvisor_run.specs.Accept.{INPUT_LIMIT, config_of}
+use Rattle.uvisor_run.specs.RefusalText.{refusal_line}
 use Rattle.uvisor_run.specs.Headline.{IsAnswered, IsBroken, IsReadToEnd, IsScriptRun, IsServed, IsTold, WereLeft}
 use Rattle.uvisor_run.specs.Output.{Output, output_by, output_for, output_of, refused_output}
 use Rattle.uvisor_run.specs.Runnable.{is_runnable}
@@ -24,8 +25,8 @@ pub script_run_of : (bytes : List ℕ) (left left_now written now : Option (List
 unfolding output_of
 script_run_of bytes left left_now written now before after were_left to_the_end served told =
     let due : output_of Script bytes ≡ record { status = 0; text = text_of served.config (script_log served.config) } =
-        ap (output_by Script) served.accepted
-        ∙ ap (λ t. if t then record { status = 0; text = text_of served.config (script_log served.config) } else refused_output refused.NotYet) (served.runnable refl) in
+    ap (output_by Script) served.accepted
+    ∙ ap (λ t. if t then record { status = 0; text = text_of served.config (script_log served.config) } else refused_output refused.NotYet) (served.runnable refl) in
     let run = served.run refl in
     record {
       bytes = bytes;
@@ -58,10 +59,10 @@ left_all bytes (Some all) (Some rest) read at_end =
 pub script_run_from : (command : Command) (bytes items : List ℕ) (left left_now written now : Option (List ℕ)) (before after status : ℕ) → status ≡ 0 → command ≡ Script → bytes ≡ items → left ≡ prepend_known items left_now → IsAtEnd left_now → (status ≡ 0 → IsServed command bytes) → (status ≢ 5 → IsTold (output_of command bytes) written now before after status) → IsScriptRun left left_now written now
 script_run_from command bytes items left left_now written now before after status done is_script is_read read at_end served told =
     script_run_of bytes left left_now written now before after
-      (subst (WereLeft left) (sym is_read) (left_all items left left_now read at_end)) at_end
-      (subst (λ c. IsServed c bytes) is_script (served done))
-      (subst (λ s. IsTold (output_of Script bytes) written now before after s) done
-        (subst (λ c. IsTold (output_of c bytes) written now before after status) is_script (told (λ five. absurd (omega (arith, done, five))))))
+    (subst (WereLeft left) (sym is_read) (left_all items left left_now read at_end)) at_end
+    (subst (λ c. IsServed c bytes) is_script (served done))
+    (subst (λ s. IsTold (output_of Script bytes) written now before after s) done
+    (subst (λ c. IsTold (output_of c bytes) written now before after status) is_script (told (λ five. absurd (omega (arith, done, five))))))
 
 -- the bytes of an input of more than n bytes
 record Longer (n : ℕ) (left : Option (List ℕ)) : Type 0 where
@@ -86,7 +87,7 @@ longer_bytes n (Some all) (Some rest) taken = record {
 }
 
 too_long_output : (command : Command) (bytes : List ℕ) → INPUT_LIMIT < length bytes → output_of command bytes ≡ refused_output refused.TooLong
-unfolding output_of
+unfolding output_of config_of refusal_line
 too_long_output command bytes long = rw (lt-ltb INPUT_LIMIT (length bytes) long) refl
 
 -- an input that is too long was answered

@@ -1,3 +1,4 @@
+pub mod Scripting
 pub mod Accept
 pub mod CheckText
 pub mod Headline

@@ -22,7 +22,6 @@ pub const WRITE_FAULT: u8 = 4;
 /// The status of a run that memory was refused.
 pub const NO_MEMORY: u8 = 5;
 
-
 /// Writes how the program is called.
 #[tactic(auto, unfolding(crate::specs::Output::usage_line))]
 pub fn answer_usage<K: Sink>(sink: &mut K) -> u8

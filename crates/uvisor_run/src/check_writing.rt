@@ -7,7 +7,9 @@ ghost use Rattle.io_edge.specs.Counts.{Rose};
 ghost use Rattle.io_edge.specs.Written.{Wrote, WrotePart};
 ghost use Rattle.uvisor_run.specs.CheckText.{box_line, box_text, check_text, irq_text, item_text, program_text, server_line, thread_line, threads_of_box, threads_text};
 
-use crate::check_text::{push_box, push_instruction, push_irq, push_item, push_server, push_thread};
+use crate::check_text::{
+    push_box, push_instruction, push_irq, push_item, push_server, push_thread,
+};
 use flat_model::{BoxPart, Config, Instr, IrqPart, Item, ThreadPart};
 use io_edge::{Sink, WriteErr};
 use run_log::Page;
@@ -163,10 +165,10 @@ fn put_head<K: Sink>(part: &BoxPart, page: &mut Page, sink: &mut K) -> Result<()
     requires { length part.now.name ≤ 16 }
     ensures ok { OnOk result (Wrote (K.written sink.old) (K.written sink.new)
         (page.old ++ ((box_line part.now.name ++ flat_map item_text part.now.items)
-            ++ flat_map irq_text part.now.irqs)) page.new) }
+        ++ flat_map irq_text part.now.irqs)) page.new) }
     ensures err { OnErr result (WrotePart (K.written sink.old) (K.written sink.new)
         (page.old ++ ((box_line part.now.name ++ flat_map item_text part.now.items)
-            ++ flat_map irq_text part.now.irqs))) }
+        ++ flat_map irq_text part.now.irqs))) }
     ensures fault_only { IsErr result → Rose (K.faults sink.old) (K.faults sink.new) }
     ensures later { K.faults sink.old ≤ K.faults sink.new }
 {
@@ -191,15 +193,20 @@ fn put_tail<K: Sink>(
     requires short { length part.now.name ≤ 16 }
     ensures ok { OnOk result (Wrote (K.written sink.old) (K.written sink.new)
         (page.old ++ (server_line (part.now.server.0 - part.now.first)
-            ++ threads_text part.now.name 0 (threads_of_box config.now part.now))) page.new) }
+        ++ threads_text part.now.name 0 (threads_of_box config.now part.now))) page.new) }
     ensures err { OnErr result (WrotePart (K.written sink.old) (K.written sink.new)
         (page.old ++ (server_line (part.now.server.0 - part.now.first)
-            ++ threads_text part.now.name 0 (threads_of_box config.now part.now)))) }
+        ++ threads_text part.now.name 0 (threads_of_box config.now part.now)))) }
     ensures fault_only { IsErr result → Rose (K.faults sink.old) (K.faults sink.new) }
     ensures later { K.faults sink.old ≤ K.faults sink.new }
 {
     put_server(server_index(part), page, sink)?;
-    put_threads(part.name.as_str().as_bytes(), threads_of_box(config, part), page, sink)
+    put_threads(
+        part.name.as_str().as_bytes(),
+        threads_of_box(config, part),
+        page,
+        sink,
+    )
 }
 
 // A box: its name, its items, its interrupt lines, its server and its threads.

@@ -30,7 +30,11 @@ fn is_run_today(instr: Instr) -> bool
 fn thread_runs_today(thread: &ThreadPart) -> bool
     ensures { result ≡ thread_runs_today thread.now }
 {
-    thread.program.as_slice().iter().all(|instr| is_run_today(*instr))
+    thread
+        .program
+        .as_slice()
+        .iter()
+        .all(|instr| is_run_today(*instr))
 }
 
 fn is_no_ring(word: ScriptWord) -> bool

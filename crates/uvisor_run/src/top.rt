@@ -9,7 +9,7 @@ ghost use Rattle.uvisor_run.specs.Headline.{IsAccepted, IsAnswered, IsBroken, Is
 ghost use Rattle.uvisor_run.specs.Output.{command_of, output_for, output_of, usage_output};
 ghost use Rattle.uvisor_run.specs.Runnable.{is_runnable};
 
-use crate::acceptance::accept;
+use crate::acceptance::{INPUT_LIMIT, accept};
 use crate::answers::{NO_MEMORY, READ_FAULT, WRITE_FAULT, answer_refusal, answer_usage};
 use crate::check_writing::write_check;
 use crate::commands::{Command, command_of};
@@ -19,9 +19,6 @@ use flat_model::{Config, ConfigErr, Log, Refused};
 use io_edge::{ReadErr, Sink, Source, WriteErr, read_all};
 use run_log::write_log;
 use std::alloc::Global;
-
-// The most bytes that an input may have.
-const INPUT_LIMIT: usize = 4_194_304;
 
 // Writes a log.
 fn answer_log<K: Sink>(config: &Config, log: &Log, sink: &mut K) -> u8

@@ -15,17 +15,17 @@ record_lines-requires-clause-room c =
 pub push-requires : goal.push-requires
 push-requires c =
     noted-room c.args.items.now.items c.record_lines.new.items.items
-        (unit_lines c.args.cfg.now c.args.flat.now c.args.rotator.now.unit (choice.Turn c.args.t true))
-        (vec_capacity c.record_lines.new.items) (vec_capacity c.args.items.now) c.record_lines.ensures.items
-        (omega (arith, event-length c.args.cfg.now (record { flat = c.args.flat.now; unit = c.args.rotator.now.unit }) (choice.Turn c.args.t true), c.requires.room))
-        c.record_lines.ensures.capacity
+    (unit_lines c.args.cfg.now c.args.flat.now c.args.rotator.now.unit (choice.Turn c.args.t true))
+    (vec_capacity c.record_lines.new.items) (vec_capacity c.args.items.now) c.record_lines.ensures.items
+    (omega (arith, event-length c.args.cfg.now (record { flat = c.args.flat.now; unit = c.args.rotator.now.unit }) (choice.Turn c.args.t true), c.requires.room))
+    c.record_lines.ensures.capacity
 
 pub returns-clause-world : goal.returns-clause-world
 returns-clause-world c =
     world-is c.args.cfg.now (record { flat = c.args.flat.now; unit = c.args.rotator.now.unit }) (choice.Turn c.args.t true)
-        c.turn_at-reply.new.flat c.record_lines.new.rotator.unit
-        (ap (λ (p : Flat × Reply). p.0) (step-turn c.args.cfg.now c.args.flat.now c.args.t c.requires.today ∙ c.turn_at-reply.ensures))
-        (sym (ap (λ (r : Rotation). r.unit) c.record_lines.ensures.rotation))
+    c.turn_at-reply.new.flat c.record_lines.new.rotator.unit
+    (ap (λ (p : Flat × Reply). p.0) (step-turn c.args.cfg.now c.args.flat.now c.args.t c.requires.today ∙ c.turn_at-reply.ensures))
+    (sym (ap (λ (r : Rotation). r.unit) c.record_lines.ensures.rotation))
 
 pub returns-clause-rotation : goal.returns-clause-rotation
 returns-clause-rotation c =
@@ -35,6 +35,6 @@ returns-clause-rotation c =
 pub returns-clause-items : goal.returns-clause-items
 returns-clause-items c =
     event-made c.args.cfg.now (record { flat = c.args.flat.now; unit = c.args.rotator.now.unit }) (choice.Turn c.args.t true)
-        c.args.items.now.items c.record_lines.new.items.items c.push.new.items.items c.turn_at-reply.result
-        c.record_lines.ensures.items c.push.ensures.items
-        (ap (λ (p : Flat × Reply). p.1) (step-turn c.args.cfg.now c.args.flat.now c.args.t c.requires.today ∙ c.turn_at-reply.ensures))
+    c.args.items.now.items c.record_lines.new.items.items c.push.new.items.items c.turn_at-reply.result
+    c.record_lines.ensures.items c.push.ensures.items
+    (ap (λ (p : Flat × Reply). p.1) (step-turn c.args.cfg.now c.args.flat.now c.args.t c.requires.today ∙ c.turn_at-reply.ensures))

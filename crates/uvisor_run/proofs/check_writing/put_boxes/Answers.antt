@@ -20,8 +20,8 @@ items-preserved g c = record {
 pub returns-in_err-put_box-clause-err : goal.returns-in_err-put_box-clause-err
 returns-in_err-put_box-clause-err g c =
     on_err c.from_residual.result (rw (← c.as_slice-boxes.ensures) (put_on_part c.items.page _ _ _
-      (at_next (flat_map (box_text c.args.config.now)) c.as_slice-boxes.result.now c.items.part-index c.part-item.result c.items-test.true c.part-item.is)
-      c.items.invariant.so_far c.in_err-put_box.ensures.err))
+    (at_next (flat_map (box_text c.args.config.now)) c.as_slice-boxes.result.now c.items.part-index c.part-item.result c.items-test.true c.part-item.is)
+    c.items.invariant.so_far c.in_err-put_box.ensures.err))
 
 pub put_box-requires-clause-short : goal.put_box-requires-clause-short
 put_box-requires-clause-short g c =

@@ -18,5 +18,5 @@ items-preserved g c = record {
 pub returns-in_err-put_thread-clause-err : goal.returns-in_err-put_thread-clause-err
 returns-in_err-put_thread-clause-err g c =
     on_err c.from_residual.result (put_on_part c.items.page _ _ _
-      (at_next (threads_text c.args.name.now c.items.k) c.args.threads.now c.items.k c.index-threads-k.result c.items-test.true c.index-threads-k.is)
-      c.items.invariant.so_far c.in_err-put_thread.ensures.err)
+    (at_next (threads_text c.args.name.now c.items.k) c.args.threads.now c.items.k c.index-threads-k.result c.items-test.true c.index-threads-k.is)
+    c.items.invariant.so_far c.in_err-put_thread.ensures.err)

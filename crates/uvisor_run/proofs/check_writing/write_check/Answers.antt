@@ -8,4 +8,4 @@ pub returns-clause-err : goal.returns-clause-err
 unfolding check_text
 returns-clause-err g c =
     on_err_weaker c.flush.result (λ part. flushed_part (flat_map (box_text c.args.config.now) c.args.config.now.boxes) c.put_boxes.new.page
-      (rw c.new-page.ensures at c.in_ok-put_boxes.ensures.ok) part) c.flush.ensures.err
+    (rw c.new-page.ensures at c.in_ok-put_boxes.ensures.ok) part) c.flush.ensures.err

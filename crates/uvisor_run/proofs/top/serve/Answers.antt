@@ -5,7 +5,7 @@ use Rattle.uvisor_run.proofs.top.serve.Goals as goal
 pub returns-in-Ok-clause-script_run : goal.returns-in-Ok-clause-script_run
 returns-in-Ok-clause-script_run g c =
     λ done is_script. script_run_from c.args.command c.as_slice.result.now c.in-Ok.bytes.items _ _ _ _ _ _ c.serve_bytes.result done is_script
-      c.as_slice.ensures.value c.in-Ok.ensures.ok c.in-Ok.ensures.end c.serve_bytes.ensures.served c.serve_bytes.ensures.told
+    c.as_slice.ensures.value c.in-Ok.ensures.ok c.in-Ok.ensures.end c.serve_bytes.ensures.served c.serve_bytes.ensures.told
 
 pub returns-in-Err-TooLong-clause-answered : goal.returns-in-Err-TooLong-clause-answered
 returns-in-Err-TooLong-clause-answered g c =

@@ -8,10 +8,11 @@ use Rattle.machine_core.proofs.machine.Machine.boot.Goals as goal
 pub invariant_of-result : goal.invariant_of-result
 invariant_of-result c =
     let steps = c.total_steps-steps.ensures ∙ ap (sum_by (λ (thread : ThreadPart). thread.steps)) c.as_slice.ensures in
-    let unit = ap (λ (r : Rotation). r.unit) c.in_ok-rotator.ensures in
-    (kept-boot c.args.config c.args.drive c.args.extra c.in_ok-flat.flat c.in_ok-rotator.rotator.unit c.in_ok-items.items.items
-        (vec_capacity c.in_ok-items.items) c.requires.sound c.requires.today
-        c.in_ok-flat.ensures unit c.in_ok-items.ensures.items
-        (omega (arith, steps, c.beside.ensures, c.in_ok-items.ensures.exact)),
-    c.in_ok-rotator.ensures ∙ ap (rotation_of c.args.config) (sym unit),
-    record { none = c.in_ok-ends.ensures.items; room = omega (arith, c.len.ensures, c.in_ok-ends.ensures.exact) })
+    let unit = ap (λ (r : Rotation). r.unit) c.in_ok-rotator.ensures in (
+      kept-boot c.args.config c.args.drive c.args.extra c.in_ok-flat.flat c.in_ok-rotator.rotator.unit c.in_ok-items.items.items
+          (vec_capacity c.in_ok-items.items) c.requires.sound c.requires.today
+          c.in_ok-flat.ensures unit c.in_ok-items.ensures.items
+          (omega (arith, steps, c.beside.ensures, c.in_ok-items.ensures.exact)),
+      c.in_ok-rotator.ensures ∙ ap (rotation_of c.args.config) (sym unit),
+      record { none = c.in_ok-ends.ensures.items; room = omega (arith, c.len.ensures, c.in_ok-ends.ensures.exact) },
+    )

@@ -29,5 +29,5 @@ pub returns-clause-legal : goal.returns-clause-legal
 returns-clause-legal c =
     let m = c.self.inside in
     subst (IsLegal c.args.self.config) (sym (log_is (goal.at.returns-clause-legal c).After-from_vec-2))
-        (subst (λ (v : MachineView). IsLegal v.config (record { items = m.items.items; ends = ends_of m.flat })) c.self.view_is
-            (legal-kept m.config m.drive m.extra m.items.items (record { flat = m.flat; unit = m.rotator.unit }) (vec_capacity m.items) c.self.invariant.0))
+    (subst (λ (v : MachineView). IsLegal v.config (record { items = m.items.items; ends = ends_of m.flat })) c.self.view_is
+    (legal-kept m.config m.drive m.extra m.items.items (record { flat = m.flat; unit = m.rotator.unit }) (vec_capacity m.items) c.self.invariant.0))

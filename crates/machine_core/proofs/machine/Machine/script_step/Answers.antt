@@ -23,7 +23,7 @@ pub record_turn-requires-clause-owners : goal.record_turn-requires-clause-owners
 record_turn-requires-clause-owners c =
     let m = c.self.inside in
     let ready = step-ready c.args.self.now m.config m.drive m.extra m.items.items (record { flat = m.flat; unit = m.rotator.unit }) (vec_capacity m.items) c.args.t
-        c.self.view_is c.requires.drive c.requires.thread c.requires.extra c.self.invariant.0 in
+    c.self.view_is c.requires.drive c.requires.thread c.requires.extra c.self.invariant.0 in
     has_owners m.config m.extra m.items.items (record { flat = m.flat; unit = m.rotator.unit }) (vec_capacity m.items) c.args.t ready.0 ready.1 ready.2
 
 pub invariant_of-self : goal.invariant_of-self
@@ -35,7 +35,8 @@ invariant_of-self c =
           (record { flat = c.record_turn.new.flat; unit = c.record_turn.new.rotator.unit }) (vec_capacity c.record_turn.new.items)
           (c.extra_after-extra.ensures ∙ ap (λ b. cond b (m.extra - 1) m.extra) c.has_ended_at.ensures)
           c.record_turn.ensures.items c.record_turn.ensures.world c.record_turn.ensures.capacity,
-      c.record_turn.ensures.rotation, c.self.invariant.2,
+      c.record_turn.ensures.rotation,
+      c.self.invariant.2,
     )
 
 pub returns : goal.returns
