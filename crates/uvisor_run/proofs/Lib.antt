@@ -1,0 +1,6 @@
+pub mod Checking
+pub mod Documents
+pub mod Runs
+pub mod Scripts
+pub mod Told
+pub mod WordLengths

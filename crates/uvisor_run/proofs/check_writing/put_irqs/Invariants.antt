@@ -1,0 +1,12 @@
+use Rattle.std.proofs.Common.{◌≤◌, ◌++◌, drop}
+use Rattle.std.specs.List.{flat_map}
+use Rattle.io_edge.specs.Written.{Wrote}
+use Rattle.uvisor_run.specs.CheckText.{irq_text}
+use Rattle.uvisor_run.proofs.check_writing.put_irqs.Given as goal
+
+abbrev pub invariant-items : goal.invariant-items
+invariant-items g l = record {
+  so_far : Wrote (g.K.Sink.written l.fn.sink) (g.K.Sink.written l.sink) (l.fn.page ++ flat_map irq_text l.fn.irqs)
+      (l.page ++ flat_map irq_text (drop l.irq-index l.irqs));
+  later : g.K.Sink.faults l.fn.sink ≤ g.K.Sink.faults l.sink;
+}

@@ -1,0 +1,22 @@
+use Rattle.std.proofs.Common.{arith}
+use Rattle.flat_model.specs.Sound.{IsThread}
+use Rattle.io_edge.proofs.Written.{wrote-part}
+use Rattle.run_log.proofs.Printing.{on_err}
+use Rattle.uvisor_run.specs.CheckText.{program_text, thread_line, threads_text}
+use Rattle.uvisor_run.proofs.Checking.{all_from_next, at_next, put_on, put_on_part}
+use Rattle.uvisor_run.proofs.check_writing.put_threads.Goals as goal
+
+pub items-preserved : goal.items-preserved
+items-preserved g c = record {
+  so_far = put_on c.items.page c.put_thread.new.page _ _ _
+      (at_next (threads_text c.args.name.now c.items.k) c.args.threads.now c.items.k c.index-threads-k.result c.items-test.true c.index-threads-k.is)
+      c.items.invariant.so_far c.in_ok-put_thread.ensures.ok;
+  threads = all_from_next IsThread c.items.k c.args.threads.now c.items.invariant.threads;
+  later = omega arith;
+}
+
+pub returns-in_err-put_thread-clause-err : goal.returns-in_err-put_thread-clause-err
+returns-in_err-put_thread-clause-err g c =
+    on_err c.from_residual.result (put_on_part c.items.page _ _ _
+    (at_next (threads_text c.args.name.now c.items.k) c.args.threads.now c.items.k c.index-threads-k.result c.items-test.true c.index-threads-k.is)
+    c.items.invariant.so_far c.in_err-put_thread.ensures.err)

@@ -1,0 +1,7 @@
+pub mod Scripting
+pub mod Accept
+pub mod CheckText
+pub mod Headline
+pub mod Output
+pub mod RefusalText
+pub mod Runnable

@@ -1,0 +1,57 @@
+-- What is due for the words of a command line and the bytes of an input: a status and a text.
+use Rattle.std.specs.Prelude.{ℕ, Bool, true, false, Option, Some, None, List, [], ◌∷◌, ◌++◌, codes, Result, Ok, Err, if◌then◌else◌}
+use Rattle.std.specs.Str.{bytes_eq}
+use Rattle.flat_model.specs.declared.parts.Config.{Config}
+use Rattle.flat_model.specs.declared.refusals.Refused.{Refused}
+use Rattle.flat_model.specs.declared.refusals.Refused.TheVariants as refused
+use Rattle.flat_model.specs.OneLog.{script_log}
+use Rattle.flat_model.specs.Text.{text_of}
+use Rattle.uvisor_run.specs.Runnable.{is_runnable}
+use Rattle.uvisor_run.specs.declared.commands.Command.{Command}
+use Rattle.uvisor_run.specs.declared.commands.Command.TheVariants.{Check, Script}
+use Rattle.uvisor_run.specs.Accept.{config_of}
+use Rattle.uvisor_run.specs.CheckText.{check_text}
+use Rattle.uvisor_run.specs.RefusalText.{refusal_line}
+
+-- the command of one word, where it is one
+abbrev pub command_named : List ℕ → Option Command
+command_named word =
+    if bytes_eq word (codes "script") then Some Script
+    else (if bytes_eq word (codes "check") then Some Check else None)
+
+-- the command that the words after the program's name are, where they are one
+abbrev pub command_of : List (List ℕ) → Option Command
+command_of (word ∷ []) = command_named word
+command_of _ = None
+
+-- the line that tells how the program is called
+unfoldable pub usage_line : List ℕ
+usage_line = codes "usage: uvisor script | threads | check | make N | tally N" ++ 10 ∷ []
+
+-- a status and a text
+pub record Output : Type 0 where
+  pub status : ℕ
+  pub text : List ℕ
+
+-- what is due for words that are no command
+abbrev pub usage_output : Output
+usage_output = record { status = 2; text = usage_line }
+
+-- what is due for an input that is refused
+abbrev pub refused_output : Refused → Output
+refused_output refusal = record { status = 1; text = refusal_line refusal }
+
+-- what a command is due to write of a configuration
+abbrev pub output_for : Command → Config → Output
+output_for Check cfg = record { status = 0; text = check_text cfg }
+output_for Script cfg =
+    if is_runnable cfg then record { status = 0; text = text_of cfg (script_log cfg) } else refused_output refused.NotYet
+
+-- what a command is due to write of an input with this answer
+abbrev pub output_by : Command → Result Config Refused → Output
+output_by command (Ok cfg) = output_for command cfg
+output_by command (Err refusal) = refused_output refusal
+
+-- what a command is due to write of the bytes of an input
+unfoldable pub output_of : Command → List ℕ → Output
+output_of command bytes = output_by command (config_of bytes)

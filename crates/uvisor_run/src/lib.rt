@@ -1,0 +1,17 @@
+//! The top call of the program: its commands, what they read and what they write.
+#![tactic(auto)]
+
+mod acceptance;
+mod answers;
+mod check_text;
+mod check_writing;
+mod commands;
+mod refusal_text;
+mod runnable;
+mod scripting;
+mod top;
+
+pub use acceptance::accept;
+pub use check_writing::write_check;
+pub use scripting::run_script;
+pub use top::scripted;
