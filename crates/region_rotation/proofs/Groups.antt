@@ -1,6 +1,6 @@
 -- The first page group that serves an access, group by group.
-use Rattle.std.proofs.Common.{◌≡◌, ℕ, zero, suc, ◌+◌, ◌-◌, ◌*◌, ◌/◌, ◌<◌, ◌≤◌, Bool, true, false, List, [], ◌∷◌, ◌++◌, Option, Some, None, refl, sym, ◌∙◌, ap, arith}
-use Rattle.std.specs.Prelude.{if◌then◌else◌, nat_eq}
+use Rattle.std.proofs.Common.{◌≡◌, ℕ, suc, ◌+◌, ◌-◌, ◌*◌, ◌/◌, ◌<◌, ◌≤◌, true, false, List, [], ◌∷◌, ◌++◌, Option, Some, None, ◌∙◌, ap, arith}
+use Rattle.std.specs.Prelude.{if◌then◌else◌}
 use Rattle.std.specs.List.{flat_map, range_with_len}
 use Rattle.std.proofs.lemmas.Bool.{ne_eqb, eq-eqb}
 use Rattle.addr_base.specs.declared.identity.BoxId.{BoxId}
@@ -8,7 +8,7 @@ use Rattle.addr_base.specs.declared.pairs.Pair.{Pair}
 use Rattle.addr_base.specs.declared.rights.Kind.{Kind}
 use Rattle.flat_model.specs.declared.boards.HeapPart.{HeapPart}
 use Rattle.flat_model.specs.Cover.{group_pair}
-use Rattle.flat_model.specs.Plan.{first_serving, owned_mask, page_group, page_pairs, serves}
+use Rattle.flat_model.specs.Plan.{first_serving, owned_mask, page_group, serves}
 use Rattle.region_rotation.proofs.Serving.{first_serving-here, first_serving-past}
 
 -- the pairs of the page groups from g on

@@ -1,18 +1,14 @@
 -- The regions of the boxes of a sound configuration.
-use Rattle.std.proofs.Common.{◌≡◌, ℕ, zero, suc, ◌+◌, ◌*◌, ◌%◌, ◌^◌, ◌<◌, ◌≤◌, Bool, true, false, List, [], ◌∷◌, length, map, Option, Some, None, refl, sym, ◌∙◌, ap, arith, inl, inr, ◌⊎◌}
+use Rattle.std.proofs.Common.{◌≤◌, Bool, true, false, map, Option, Some, None, refl, arith, inl, inr}
 use Rattle.std.specs.Prelude.{IfSome, if◌then◌else◌}
-use Rattle.std.specs.List.{AllByRecursion, slice_get}
+use Rattle.std.specs.List.{AllByRecursion}
 use Rattle.std.specs.Option.{option_map_or}
-use Rattle.addr_base.specs.declared.pairs.Pair.{Pair}
 use Rattle.addr_base.specs.declared.ranges.Range.{Range}
-use Rattle.flat_model.specs.declared.boards.Board.{Board}
 use Rattle.flat_model.specs.declared.boards.HeapPart.{HeapPart}
 use Rattle.flat_model.specs.declared.parts.BoxPart.{BoxPart}
 use Rattle.flat_model.specs.declared.parts.Config.{Config}
-use Rattle.flat_model.specs.declared.parts.Item.{Item}
 use Rattle.flat_model.specs.Cover.{NO_ACCESS, cover_of, pair_of}
-use Rattle.flat_model.specs.Decision.{is_region}
-use Rattle.flat_model.specs.Plan.{READ_EXECUTE, READ_WRITE, grant_pairs, no_pair, overlay_pair}
+use Rattle.flat_model.specs.Plan.{READ_EXECUTE, READ_WRITE, no_pair}
 use Rattle.flat_model.specs.Sound as sound
 use Rattle.flat_model.proofs.Covers.{OfCover, each-cover_of, is_region-hidden, is_region-pair_of_rights}
 use Rattle.flat_model.proofs.Elements.{each-flat_map, each-from_get, each-get, each-map, each_weaker}

@@ -1,6 +1,6 @@
 -- What a switch, a recovery and a flush leave of the rotator's state.
-use Rattle.std.proofs.Common.{◌≡◌, ℕ, zero, suc, ◌+◌, ◌-◌, ◌<◌, ◌≤◌, Bool, true, false, List, [], ◌∷◌, ◌++◌, length, map, replicate, Option, Some, None, refl, sym, ◌∙◌, ap, subst, arith, inl, inr, ◌⊎◌}
-use Rattle.std.specs.Prelude.{is_some, option_map, slice_set, IfSome, if◌then◌else◌}
+use Rattle.std.proofs.Common.{◌≡◌, ℕ, ◌-◌, List, length, map, replicate, Option, Some, None, refl, sym, ◌∙◌, ap, subst, arith, inr}
+use Rattle.std.specs.Prelude.{is_some, option_map, slice_set, IfSome}
 use Rattle.std.specs.List.{AllByRecursion, Contains, slice_get}
 use Rattle.std.specs.Option.{option_map_or}
 use Rattle.std.proofs.lemmas.Option.{get_or_from_slice_get, same_Some, slice_get-map, slice_get_within}
@@ -24,7 +24,7 @@ use Rattle.flat_model.proofs.Granted.{HasOwners}
 use Rattle.flat_model.proofs.Placed.{IsPlaced-from_sound}
 use Rattle.flat_model.proofs.Recovered.{IsPlanned, is_granted-recovered, is_some-recovered}
 use Rattle.flat_model.proofs.Recovery.{IsFirst-first_serving}
-use Rattle.flat_model.proofs.Turning.{IsTurnedBy, IsTurnedBy-set, IsTurnedBy-switch, OnCircle, length-slots_from, touched_pairs}
+use Rattle.flat_model.proofs.Turning.{IsTurnedBy, IsTurnedBy-set, IsTurnedBy-switch, touched_pairs}
 use Rattle.region_rotation.specs.declared.home.HomePairs.{HomePairs}
 use Rattle.region_rotation.specs.Ready.{IsHeapBelow, IsHome, IsKnown, IsOfPlan, IsReady, plan_at, slots_at}
 use Rattle.region_rotation.specs.Rotation.{Rotation, home_pairs, rotation_of}

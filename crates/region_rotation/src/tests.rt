@@ -106,8 +106,14 @@ fn a_grant_of_seven_blocks_rotates_in_by_three_pairs(rt: HostRuntime) -> Result<
         });
         assert_eq!(rt; rotated, pair, "at {a}");
     }
-    assert_eq!(rt; rotator.decide(0x4000_0020, Kind::Write), Verdict::Granted(3));
-    assert_eq!(rt; rotator.decide(0x2000_0000, Kind::Read), Verdict::Granted(1));
+    assert_eq!(rt;
+        rotator.decide(0x4000_0020, Kind::Write),
+        Verdict::Granted(3)
+    );
+    assert_eq!(rt;
+        rotator.decide(0x2000_0000, Kind::Read),
+        Verdict::Granted(1)
+    );
     assert_eq!(rt; rotator.decide(0, Kind::Fetch), Verdict::Granted(0));
     rotator.flush();
     assert_eq!(rt; rotator.decide(0x4000_0020, Kind::Read), Verdict::Denied);

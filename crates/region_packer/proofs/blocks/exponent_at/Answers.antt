@@ -1,5 +1,4 @@
-use Rattle.std.proofs.Common.{◌≡◌, ◌+◌, ◌^◌, ◌≤◌, arith, subst, sym}
-use Rattle.flat_model.specs.Cover.{exponent}
+use Rattle.std.proofs.Common.{◌+◌, ◌^◌, ◌≤◌, arith, subst, sym}
 use Rattle.flat_model.proofs.Blocks.{IsLargest-exponent, IsSpan}
 use Rattle.flat_model.proofs.Exponents.{exponent-is}
 use Rattle.region_packer.proofs.blocks.exponent_at.Goals as goal

@@ -1,4 +1,4 @@
-use Rattle.std.proofs.Common.{◌≤◌, ◌-◌, ◌<◌, arith}
+use Rattle.std.proofs.Common.{arith}
 use Rattle.std.proofs.lemmas.Nat.{leading_top}
 use Rattle.flat_model.proofs.Powers.{smaller}
 use Rattle.region_packer.proofs.pages.exponent_of_page.Goals as goal

@@ -1,7 +1,5 @@
-use Rattle.std.proofs.Common.{◌≡◌, ◌*◌, ◌+◌, ◌-◌, ◌%◌, ◌<◌, ℕ, true, arith, ap, ◌∙◌, sym}
-use Rattle.addr_base.specs.declared.pairs.Pair.{Pair}
+use Rattle.std.proofs.Common.{◌≡◌, ◌*◌, ◌+◌, ◌%◌, arith}
 use Rattle.flat_model.specs.Cover.{group_pair}
-use Rattle.flat_model.specs.Decision.{is_region}
 use Rattle.flat_model.proofs.PageGroups.{is_region-group}
 use Rattle.flat_model.proofs.Placed.{IsPage-from}
 use Rattle.region_packer.proofs.pages.group.Goals as goal

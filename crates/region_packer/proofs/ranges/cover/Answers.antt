@@ -1,8 +1,7 @@
-use Rattle.std.proofs.Common.{◌≡◌, ℕ, true, ◌+◌, ◌^◌, ◌<◌, ◌≤◌, List, [], ◌∷◌, ◌++◌, length, arith, rules, sym, ◌∙◌, ap, subst}
-use Rattle.std.specs.Prelude.{All, slice_index_or}
+use Rattle.std.proofs.Common.{◌≡◌, true, ◌+◌, ◌^◌, ◌≤◌, [], ◌∷◌, ◌++◌, length, arith, sym, ◌∙◌, ap, subst}
+use Rattle.std.specs.Prelude.{All}
 use Rattle.std.specs.List.{list_any}
 use Rattle.std.proofs.lemmas.List.Elements.{All-from_recursion}
-use Rattle.addr_base.specs.declared.pairs.Pair.{Pair}
 use Rattle.addr_base.specs.declared.rights.Kind.{Kind}
 use Rattle.addr_base.specs.Range.{end_of}
 use Rattle.addr_base.specs.Rights.{gives}

@@ -1,6 +1,4 @@
-use Rattle.std.proofs.Common.{◌-◌, ◌≡◌, ◌+◌}
-use Rattle.addr_base.specs.Range.{end_of}
-use Rattle.flat_model.specs.Cover.{attributes}
+use Rattle.std.proofs.Common.{◌-◌}
 use Rattle.region_packer.proofs.Going.{IsGoing}
 use Rattle.region_packer.proofs.ranges.cover.Given as goal
 

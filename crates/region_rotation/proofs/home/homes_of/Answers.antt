@@ -1,8 +1,7 @@
-use Rattle.std.proofs.Common.{◌≡◌, ℕ, ◌<◌, ◌≤◌, length, Some, refl, sym, ◌∙◌, ap, arith, rules}
-use Rattle.std.specs.List.{AllByRecursion, slice_get}
+use Rattle.std.proofs.Common.{◌≡◌, length, Some, refl, sym, ◌∙◌, ap, arith}
+use Rattle.std.specs.List.{slice_get}
 use Rattle.std.proofs.lemmas.Option.{slice_get_read}
 use Rattle.flat_model.proofs.Elements.{each-get}
-use Rattle.region_rotation.specs.Coverable.{IsCoverable}
 use Rattle.region_rotation.proofs.Homes.{IsMakable, each_makable}
 use Rattle.region_rotation.proofs.home.homes_of.Goals as goal
 

@@ -1,4 +1,4 @@
-use Rattle.std.proofs.Common.{◌-◌, ◌<◌, ◌≤◌, arith, suc}
+use Rattle.std.proofs.Common.{arith, suc}
 use Rattle.std.proofs.lemmas.Nat.{leading_top}
 use Rattle.flat_model.proofs.Powers.{smaller}
 use Rattle.region_rotation.proofs.home.region_of.Goals as goal

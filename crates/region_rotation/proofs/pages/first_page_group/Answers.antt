@@ -1,17 +1,16 @@
-use Rattle.std.proofs.Common.{◌≡◌, ℕ, suc, ◌+◌, ◌*◌, ◌/◌, ◌%◌, ◌^◌, ◌<◌, ◌≤◌, Bool, true, false, List, Option, Some, None, refl, sym, ◌∙◌, ap, subst, arith}
+use Rattle.std.proofs.Common.{◌≡◌, ℕ, ◌+◌, ◌*◌, ◌/◌, ◌%◌, ◌^◌, ◌<◌, ◌≤◌, true, List, Option, Some, sym, ◌∙◌, ap, arith}
 use Rattle.std.specs.Prelude.{is_some}
 use Rattle.std.proofs.lemmas.Bool.{true≢false}
 use Rattle.std.proofs.lemmas.Nat.{mul-le}
 use Rattle.std.proofs.Math.Nat.{add-mul-mod_self_right}
 use Rattle.addr_base.specs.declared.identity.BoxId.{BoxId}
 use Rattle.addr_base.specs.declared.pairs.Pair.{Pair}
-use Rattle.addr_base.specs.declared.rights.Kind.{Kind}
 use Rattle.flat_model.specs.declared.boards.HeapPart.{HeapPart}
 use Rattle.flat_model.specs.Cover.{group_pair}
-use Rattle.flat_model.specs.Plan.{first_serving, owned_mask, page_pairs, serves}
+use Rattle.flat_model.specs.Plan.{owned_mask, serves}
 use Rattle.flat_model.proofs.Powers.{at_least_32}
 use Rattle.region_rotation.specs.Ready.{IsHeapBelow}
-use Rattle.region_rotation.proofs.Groups.{first_serving-empty, first_serving-group, first_serving-off, groups_from}
+use Rattle.region_rotation.proofs.Groups.{first_serving-empty, first_serving-group, first_serving-off}
 use Rattle.region_rotation.proofs.pages.first_page_group.Goals as goal
 use Rattle.region_rotation.proofs.pages.first_page_group.Goals.{in-Some+else-is_serving, in_default}
 

@@ -1,6 +1,5 @@
-use Rattle.std.proofs.Common.{◌≡◌, Some, None, List, refl, sym, ◌∙◌, ap}
+use Rattle.std.proofs.Common.{sym, ◌∙◌, ap}
 use Rattle.flat_model.specs.Plan.{first_serving, page_pairs}
-use Rattle.region_rotation.specs.Ready.{plan_at}
 use Rattle.region_rotation.proofs.Serving.{first_serving-left, first_serving-right}
 use Rattle.region_rotation.proofs.rotator.serving.Goals as goal
 

@@ -1,4 +1,4 @@
-use Rattle.std.proofs.Common.{◌≡◌, ℕ, suc, List, [], ◌∷◌, length, set, refl, sym, ◌∙◌, ap, arith}
+use Rattle.std.proofs.Common.{◌≡◌, List, [], ◌∷◌, length, set, refl, ◌∙◌, ap, arith}
 use Rattle.addr_base.specs.declared.pairs.Pair.{Pair}
 use Rattle.flat_model.specs.Plan.{REGIONS, flushed_pairs, slots_from}
 use Rattle.region_rotation.proofs.slots.switch_to.Goals as goal

@@ -1,5 +1,5 @@
-use Rattle.std.proofs.Common.{◌≡◌, ℕ, ◌<◌, Bool, true, false, List, Option, Some, None, length, get_or, refl, sym, ◌∙◌, ap, subst}
-use Rattle.std.specs.Prelude.{is_some, option_map, slice_set, IfSome}
+use Rattle.std.proofs.Common.{◌≡◌, ℕ, ◌<◌, List, Option, Some, None, length, get_or, refl, sym, ◌∙◌, ap, subst}
+use Rattle.std.specs.Prelude.{is_some, slice_set, IfSome}
 use Rattle.std.specs.List.{slice_get}
 use Rattle.std.proofs.lemmas.Option.{slice_get_read}
 use Rattle.addr_base.specs.declared.identity.BoxId.{BoxId}
@@ -8,7 +8,7 @@ use Rattle.addr_base.specs.declared.pairs.Verdict.TheVariants.{Denied}
 use Rattle.addr_base.specs.declared.rights.Kind.{Kind}
 use Rattle.flat_model.specs.declared.boards.HeapPart.{HeapPart}
 use Rattle.flat_model.specs.Decision.{decision, is_granted}
-use Rattle.flat_model.specs.Plan.{REGIONS, first_serving, next_slot, plan_of}
+use Rattle.flat_model.specs.Plan.{first_serving, plan_of}
 use Rattle.flat_model.specs.UnitRun.{rotated}
 use Rattle.flat_model.proofs.Elements.{each-get}
 use Rattle.flat_model.proofs.Granted.{HasOwners}
