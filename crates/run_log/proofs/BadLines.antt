@@ -1,6 +1,6 @@
 -- Where the reading of a text stops is the first line after which no text can go on.
-use Rattle.std.proofs.Common.{◌≡◌, ◌≢◌, ℕ, zero, suc, ◌+◌, ◌-◌, ◌*◌, ◌^◌, ◌<◌, ◌≤◌, Bool, true, false, cond, List, [], ◌∷◌, ◌++◌, length, replicate, refl, ap, sym, ◌∙◌, arith, append_assoc, length-append}
-use Rattle.std.specs.Prelude.{nat_eq, if◌then◌else◌}
+use Rattle.std.proofs.Common.{◌≡◌, ◌≢◌, ℕ, zero, suc, ◌+◌, ◌-◌, ◌^◌, ◌<◌, ◌≤◌, Bool, true, false, cond, List, [], ◌∷◌, ◌++◌, length, replicate, refl, ap, sym, ◌∙◌, arith, append_assoc, length-append}
+use Rattle.std.specs.Prelude.{nat_eq}
 use Rattle.std.specs.List.{AllByRecursion, flat_map, list_all}
 use Rattle.std.proofs.lemmas.Bool.{eqb-false, eqb-true, ne_eqb}
 use Rattle.std.proofs.lemmas.List.{append-nil, length-replicate}
@@ -10,16 +10,15 @@ use Rattle.flat_model.proofs.NamedChoices.{both_true}
 use Rattle.flat_model.specs.declared.events.Logged.{Logged}
 use Rattle.flat_model.specs.declared.events.Mode.TheVariants as mode
 use Rattle.flat_model.specs.declared.logs.End.{End}
-use Rattle.flat_model.specs.declared.logs.Log.{Log}
 use Rattle.flat_model.specs.declared.parts.Config.{Config}
 use Rattle.flat_model.specs.Log.{is_named_item}
 use Rattle.flat_model.specs.Sound.{IsSound}
 use Rattle.flat_model.specs.Text.{end_line, end_lines, item_line}
-use Rattle.run_log.specs.Reading.{Begins, IsFirstBadLine, IsLogOf, first_lines, line_count}
-use Rattle.run_log.specs.Stops.{AreItemsOf, HasNoEnd, HasNoItem, StopsInEnds}
-use Rattle.run_log.specs.Typed.{AreWords, IsTypedEnd, IsTypedItem}
+use Rattle.run_log.specs.Reading.{Begins, IsFirstBadLine, first_lines, line_count}
+use Rattle.run_log.specs.Stops.{AreItemsOf, HasNoItem, StopsInEnds}
+use Rattle.run_log.specs.Typed.{IsTypedEnd, IsTypedItem}
 use Rattle.run_log.proofs.LineLemmas.{Feedless, end_body, end_feedless, end_line_is, item_body, item_feedless, item_line_is, item_not_end, other_rest, other_rest_end}
-use Rattle.run_log.proofs.StopLemmas.{Stuck, no_item_in_ends, none_of, so_far}
+use Rattle.run_log.proofs.StopLemmas.{Stuck, none_of, so_far}
 
 not_feed : (b : ℕ) → b ≢ 10 → nat_eq b 10 ≡ false
 not_feed b h = ne_eqb b 10 h
@@ -65,7 +64,7 @@ first_of body line r k is feedless =
     ∙ sym (ap (λ xs. xs ++ first_lines k r) is ∙ append_assoc body (10 ∷ []) (first_lines k r))
 
 lines_of_items : (cfg : Config) (is : List Logged) (r : List ℕ) (k : ℕ) → IsSound cfg → list_all (is_named_item cfg) is ≡ true → AllByRecursion IsTypedItem is
-  → first_lines (length is + k) (flat_map (item_line cfg) is ++ r) ≡ flat_map (item_line cfg) is ++ first_lines k r
+    → first_lines (length is + k) (flat_map (item_line cfg) is ++ r) ≡ flat_map (item_line cfg) is ++ first_lines k r
 lines_of_items cfg [] r k sound named typed = let none : 0 + k ≡ k = omega arith in rw none refl
 lines_of_items cfg (i ∷ is) r k sound named typed =
     let both = both_true (is_named_item cfg i) (list_all (is_named_item cfg) is) named in
@@ -76,7 +75,7 @@ lines_of_items cfg (i ∷ is) r k sound named typed =
     ∙ sym (append_assoc (item_line cfg i) (flat_map (item_line cfg) is) (first_lines k r)))
 
 lines_of_ends : (cfg : Config) (t : ℕ) (es : List End) (r : List ℕ) (k : ℕ) → IsSound cfg → t + length es < 2 ^ 64 → AllByRecursion IsTypedEnd es
-  → first_lines (length es + k) (end_lines cfg t es ++ r) ≡ end_lines cfg t es ++ first_lines k r
+    → first_lines (length es + k) (end_lines cfg t es ++ r) ≡ end_lines cfg t es ++ first_lines k r
 lines_of_ends cfg t [] r k sound small typed = let none : 0 + k ≡ k = omega arith in rw none refl
 lines_of_ends cfg t (x ∷ es) r k sound small typed =
     let many : suc (length es) + k ≡ suc (length es + k) = omega arith in
@@ -86,7 +85,7 @@ lines_of_ends cfg t (x ∷ es) r k sound small typed =
     ∙ sym (append_assoc (end_line cfg t x) (end_lines cfg (t + 1) es) (first_lines k r)))
 
 count_of_items : (cfg : Config) (is : List Logged) (r : List ℕ) → IsSound cfg → list_all (is_named_item cfg) is ≡ true → AllByRecursion IsTypedItem is
-  → line_count (flat_map (item_line cfg) is ++ r) ≡ length is + line_count r
+    → line_count (flat_map (item_line cfg) is ++ r) ≡ length is + line_count r
 count_of_items cfg [] r sound named typed = omega arith
 count_of_items cfg (i ∷ is) r sound named typed =
     let both = both_true (is_named_item cfg i) (list_all (is_named_item cfg) is) named in
@@ -94,7 +93,7 @@ count_of_items cfg (i ∷ is) r sound named typed =
     ∙ omega (arith, count_of_items cfg is r sound both.1 typed.1)
 
 count_of_ends : (cfg : Config) (t : ℕ) (es : List End) (r : List ℕ) → IsSound cfg → t + length es < 2 ^ 64 → AllByRecursion IsTypedEnd es
-  → line_count (end_lines cfg t es ++ r) ≡ length es + line_count r
+    → line_count (end_lines cfg t es ++ r) ≡ length es + line_count r
 count_of_ends cfg t [] r sound small typed = omega arith
 count_of_ends cfg t (x ∷ es) r sound small typed =
     ap line_count (append_assoc (end_line cfg t x) (end_lines cfg (t + 1) es) r) ∙ count_end cfg t x (end_lines cfg (t + 1) es ++ r) sound (omega (arith, small)) typed.0
@@ -159,7 +158,7 @@ so_far_begins cfg items ends rest sound stuck =
 
 -- the same lines, with the first line that cannot go on and another rest
 stuck_line : (cfg : Config) (items : List Logged) (ends : List End) (rest l r s : List ℕ) → IsSound cfg → Stuck cfg items ends rest → rest ≡ l ++ 10 ∷ r → Feedless l
-  → Stuck cfg items ends (l ++ 10 ∷ s)
+    → Stuck cfg items ends (l ++ 10 ∷ s)
 stuck_line cfg items ends rest l r s sound stuck is feedless = record {
   named = stuck.named;
   typed = stuck.typed;
@@ -174,59 +173,59 @@ stuck_line cfg items ends rest l r s sound stuck is feedless = record {
     no_item [] typed none = other_rest cfg l r s sound feedless (rw is at none)
     no_item (x ∷ es) typed none = record {
       none = λ i after at.
-        item_not_end cfg i 0 x after (end_lines cfg (0 + 1) es ++ (l ++ 10 ∷ s)) sound at.named at.typed (omega arith) typed.0
+          item_not_end cfg i 0 x after (end_lines cfg (0 + 1) es ++ (l ++ 10 ∷ s)) sound at.named at.typed (omega arith) typed.0
           (sym at.whole ∙ append_assoc (end_line cfg 0 x) (end_lines cfg (0 + 1) es) (l ++ 10 ∷ s));
     }
 
 -- where it stops is the first bad line
 pub stuck_is_bad : (cfg : Config) (bytes : List ℕ) (items : List Logged) (ends : List End) (rest : List ℕ) (k : ℕ) → IsSound cfg → Stuck cfg items ends rest
-  → bytes ≡ so_far cfg items ends ++ rest → k ≡ length items + length ends + 1 → IsFirstBadLine cfg bytes k
+    → bytes ≡ so_far cfg items ends ++ rest → k ≡ length items + length ends + 1 → IsFirstBadLine cfg bytes k
 stuck_is_bad cfg bytes items ends rest k sound stuck whole is_k =
     let lines = flat_map (item_line cfg) items in
     let n = length items + length ends in
     let small : 0 + length ends < 2 ^ 64 = omega (arith, stuck.few, sound.limits.threads) in
     let split : bytes ≡ lines ++ (end_lines cfg 0 ends ++ rest) = whole ∙ append_assoc lines (end_lines cfg 0 ends) rest in
     let count : line_count bytes ≡ n + line_count rest =
-      ap line_count split ∙ omega (arith, count_of_items cfg items (end_lines cfg 0 ends ++ rest) sound stuck.named stuck.typed, count_of_ends cfg 0 ends rest sound small stuck.typed_ends) in
+    ap line_count split ∙ omega (arith, count_of_items cfg items (end_lines cfg 0 ends ++ rest) sound stuck.named stuck.typed, count_of_ends cfg 0 ends rest sound small stuck.typed_ends) in
     let firsts : (j : ℕ) → first_lines (n + j) bytes ≡ so_far cfg items ends ++ first_lines j rest =
-      λ j.
-        let regroup : n + j ≡ length items + (length ends + j) = omega arith in
-        ap (λ m. first_lines m bytes) regroup ∙ ap (first_lines (length items + (length ends + j))) split
-        ∙ lines_of_items cfg items (end_lines cfg 0 ends ++ rest) (length ends + j) sound stuck.named stuck.typed
-        ∙ ap (λ xs. lines ++ xs) (lines_of_ends cfg 0 ends rest j sound small stuck.typed_ends)
-        ∙ sym (append_assoc lines (end_lines cfg 0 ends) (first_lines j rest)) in
+    λ j.
+    let regroup : n + j ≡ length items + (length ends + j) = omega arith in
+    ap (λ m. first_lines m bytes) regroup ∙ ap (first_lines (length items + (length ends + j))) split
+    ∙ lines_of_items cfg items (end_lines cfg 0 ends ++ rest) (length ends + j) sound stuck.named stuck.typed
+    ∙ ap (λ xs. lines ++ xs) (lines_of_ends cfg 0 ends rest j sound small stuck.typed_ends)
+    ∙ sym (append_assoc lines (end_lines cfg 0 ends) (first_lines j rest)) in
     let before : first_lines (k - 1) bytes ≡ so_far cfg items ends =
-      ap (λ m. first_lines m bytes) (omega (arith, is_k)) ∙ firsts 0 ∙ append-nil (so_far cfg items ends) in
+    ap (λ m. first_lines m bytes) (omega (arith, is_k)) ∙ firsts 0 ∙ append-nil (so_far cfg items ends) in
     record {
       none = λ log of. none_of cfg items ends rest log sound stuck (rw whole at of);
       some = omega (arith, is_k);
       within = omega (arith, is_k, count);
       before = rw before (so_far_begins cfg items ends rest sound stuck);
       bad = λ within begins.
-        let has = has_line rest (omega (arith, within, is_k, count)) in
-        let with_line : first_lines k bytes ≡ so_far cfg items ends ++ (has.line ++ 10 ∷ []) =
+          let has = has_line rest (omega (arith, within, is_k, count)) in
+          let with_line : first_lines k bytes ≡ so_far cfg items ends ++ (has.line ++ 10 ∷ []) =
           ap (λ m. first_lines m bytes) is_k ∙ firsts 1 ∙ ap (λ xs. so_far cfg items ends ++ first_lines 1 xs) has.whole
           ∙ ap (λ xs. so_far cfg items ends ++ xs) (first_line_is has.line has.rest 0 has.one) in
-        let other = stuck_line cfg items ends rest has.line has.rest begins.rest sound stuck has.whole has.one in
-        let regroup : first_lines k bytes ++ begins.rest ≡ so_far cfg items ends ++ (has.line ++ 10 ∷ begins.rest) =
+          let other = stuck_line cfg items ends rest has.line has.rest begins.rest sound stuck has.whole has.one in
+          let regroup : first_lines k bytes ++ begins.rest ≡ so_far cfg items ends ++ (has.line ++ 10 ∷ begins.rest) =
           ap (λ xs. xs ++ begins.rest) with_line ∙ append_assoc (so_far cfg items ends) (has.line ++ 10 ∷ []) begins.rest
           ∙ ap (λ xs. so_far cfg items ends ++ xs) (append_assoc has.line (10 ∷ []) begins.rest) in
-        none_of cfg items ends (has.line ++ 10 ∷ begins.rest) begins.log sound other (rw regroup at begins.whole);
+          none_of cfg items ends (has.line ++ 10 ∷ begins.rest) begins.log sound other (rw regroup at begins.whole);
     }
 
 -- the reading of items and then ends stopped at the first bad line
 pub stops_is_bad : (cfg : Config) (bytes : List ℕ) (items : List Logged) (rest : List ℕ) (k : ℕ) → IsSound cfg → AreItemsOf cfg bytes items rest → HasNoItem cfg rest
-  → StopsInEnds cfg rest (length items) k → IsFirstBadLine cfg bytes k
+    → StopsInEnds cfg rest (length items) k → IsFirstBadLine cfg bytes k
 stops_is_bad cfg bytes items rest k sound read none stops =
     stuck_is_bad cfg bytes items stops.ends stops.rest k sound
-      (record {
-        named = read.named;
-        typed = read.typed;
-        typed_ends = stops.read.typed;
-        few = stops.few;
-        no_item = rw stops.read.whole at none;
-        stuck = stops.stuck;
-        left = stops.left;
-      })
-      (read.whole ∙ ap (λ xs. flat_map (item_line cfg) items ++ xs) stops.read.whole ∙ sym (append_assoc (flat_map (item_line cfg) items) (end_lines cfg 0 stops.ends) stops.rest))
-      stops.line
+    (record {
+      named = read.named;
+      typed = read.typed;
+      typed_ends = stops.read.typed;
+      few = stops.few;
+      no_item = rw stops.read.whole at none;
+      stuck = stops.stuck;
+      left = stops.left;
+    })
+    (read.whole ∙ ap (λ xs. flat_map (item_line cfg) items ++ xs) stops.read.whole ∙ sym (append_assoc (flat_map (item_line cfg) items) (end_lines cfg 0 stops.ends) stops.rest))
+    stops.line

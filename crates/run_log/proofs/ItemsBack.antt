@@ -1,12 +1,11 @@
 -- What is printed of an item or an end reads as that item or end.
-use Rattle.std.proofs.Common.{◌≡◌, ℕ, zero, suc, ◌+◌, ◌-◌, ◌^◌, ◌<◌, ◌≤◌, Bool, true, false, not, min, List, [], ◌∷◌, ◌++◌, length, take, drop, refl, ap, sym, ◌∙◌, arith}
+use Rattle.std.proofs.Common.{◌≡◌, ℕ, zero, suc, ◌-◌, ◌<◌, ◌≤◌, Bool, true, false, not, min, List, [], ◌∷◌, length, take, drop, refl, ap, sym, ◌∙◌, arith}
 use Rattle.std.specs.Prelude.{nat_eq, nat_le, nat_lt, map, codes, if◌then◌else◌, ◌&&◌}
 use Rattle.std.specs.Fmt.{decimal}
 use Rattle.std.specs.List.{AllByRecursion, list_all}
 use Rattle.std.specs.Str.{bytes_eq}
 use Rattle.std.proofs.lemmas.Bool.{eqb-true, leb-true, ltb-true}
 use Rattle.std.proofs.lemmas.Bool.Decides.{nat_tests}
-use Rattle.addr_base.specs.declared.identity.BoxId.{BoxId}
 use Rattle.addr_base.specs.declared.identity.Ticket.{Ticket}
 use Rattle.addr_base.specs.declared.pairs.Verdict.{Verdict}
 use Rattle.addr_base.specs.declared.pairs.Verdict.TheVariants.{Granted, Denied}
@@ -77,7 +76,7 @@ empty_small = refl
 
 -- the frames and the zeros after them
 smalls_back : (list : List ℕ) (n k : ℕ) (ws : List (List ℕ)) → drop k ws ≡ map decimal (take n list) → list_all (λ frame. nat_eq frame 0) (drop n list) ≡ true
-  → AllByRecursion Fits8 list → smalls_at (length list) k ws ≡ list
+    → AllByRecursion Fits8 list → smalls_at (length list) k ws ≡ list
 smalls_back [] n k ws words zeros fits = refl
 smalls_back (x ∷ xs) zero k ws words zeros fits =
     let both = both_true (nat_eq x 0) (list_all (λ frame. nat_eq frame 0) xs) zeros in
@@ -117,19 +116,19 @@ frames_back a b c frames named typed =
     let many : length ws ≡ frames.n = length_words frames.n frames.list (omega (arith, typed.count, most)) in
     let n_is : min (length (a ∷ b ∷ c ∷ ws) - 3) 16 ≡ frames.n = omega (arith, many, most) in
     let list_is : smalls_at 16 3 (a ∷ b ∷ c ∷ ws) ≡ frames.list =
-      ap (λ count. smalls_at count 3 (a ∷ b ∷ c ∷ ws)) (sym typed.count) ∙ smalls_back frames.list frames.n 3 (a ∷ b ∷ c ∷ ws) refl zeros.1 typed.each in
+    ap (λ count. smalls_at count 3 (a ∷ b ∷ c ∷ ws)) (sym typed.count) ∙ smalls_back frames.list frames.n 3 (a ∷ b ∷ c ∷ ws) refl zeros.1 typed.each in
     ap (λ m. record { n = m; list = smalls_at 16 3 (a ∷ b ∷ c ∷ ws) }) n_is ∙ ap (λ xs. record { n = frames.n; list = xs }) list_is
 
 started_back : (cfg : Config) (ticket : Ticket) (a b c d : List ℕ) (started : Started) → nat_eq started.caller.0 (home_of cfg ticket.thread.0).0 ≡ true → IsTypedStarted started
-  → started_of cfg ticket (a ∷ b ∷ c ∷ d ∷ hex_word started.function ∷ map hex_word started.args) ≡ started
+    → started_of cfg ticket (a ∷ b ∷ c ∷ d ∷ hex_word started.function ∷ map hex_word started.args) ≡ started
 unfolding started_of
 started_back cfg ticket a b c d started caller typed =
     let ws = a ∷ b ∷ c ∷ d ∷ hex_word started.function ∷ map hex_word started.args in
     let function_is : number_of 16 (hex_word started.function) ≡ started.function = number_of_hex started.function typed.function in
     let args_are : hexes_at 4 5 ws ≡ started.args =
-      ap (λ count. hexes_at count 5 ws) (sym typed.args.count) ∙ hexes_back started.args 5 ws refl typed.args.each in
+    ap (λ count. hexes_at count 5 ws) (sym typed.args.count) ∙ hexes_back started.args 5 ws refl typed.args.each in
     let caller_is : home_of cfg ticket.thread.0 ≡ started.caller =
-      ap (λ n. record { 0 = n }) (sym (eqb-true started.caller.0 (home_of cfg ticket.thread.0).0 caller)) in
+    ap (λ n. record { 0 = n }) (sym (eqb-true started.caller.0 (home_of cfg ticket.thread.0).0 caller)) in
     ap (λ f. record { function = f; args = hexes_at 4 5 ws; caller = home_of cfg ticket.thread.0 }) function_is
     ∙ ap (λ xs. record { function = started.function; args = xs; caller = home_of cfg ticket.thread.0 }) args_are
     ∙ ap (λ h. record { function = started.function; args = started.args; caller = h }) caller_is
@@ -175,7 +174,7 @@ had_room_back true r named = had_room_turn r named
 had_room_back false r named = had_room_full r named
 
 start_reply_back : (cfg : Config) (t ticket_word : List ℕ) (ticket : Ticket) (r : Reply) → ticket_of cfg ticket_word ≡ ticket → is_start_reply (home_of cfg ticket.thread.0) r ≡ true → IsTypedReply r
-  → start_reply_of cfg (codes "start" ∷ t ∷ ticket_word ∷ reply_words r) ≡ r
+    → start_reply_of cfg (codes "start" ∷ t ∷ ticket_word ∷ reply_words r) ≡ r
 unfolding start_reply_of
 start_reply_back cfg t w ticket (reply.Status status) e named typed = ap reply.Status (sym (eqb-true status 12 named))
 start_reply_back cfg t w ticket (reply.Begun started) e named typed =
@@ -192,7 +191,7 @@ ring_reply reply.Done named = refl
 ring_reply _ named = absurd (cc)
 
 entry_back : (cfg : Config) (c : Choice) (r : Reply) → IsSound cfg → is_named_choice cfg c r ≡ true → IsTypedChoice c → IsTypedReply r
-  → item_of cfg (entry_words cfg c r) ≡ item.Core (record { choice = c; reply = r })
+    → item_of cfg (entry_words cfg c r) ≡ item.Core (record { choice = c; reply = r })
 unfolding item_of turn_of start_of idle_of ring_of
 entry_back cfg (choice.Turn t room) r sound named typed_choice typed =
     let both = both_true (nat_lt t.0 (length cfg.threads)) (if room then is_turn_reply r else is_full_reply r) named in
@@ -230,8 +229,12 @@ unit_back cfg (line.Rotate slot pair) sound named typed =
 unit_back cfg line.Flush sound named typed = refl
 unit_back cfg (line.Access kind size at verdict) sound named typed =
     let both = both_true (is_size size) (is_named_verdict verdict) named in
-    rw (kind_back kind, small_of_decimal size (size_small size both.0), number_of_hex at typed,
-      verdict_back (codes "unit") (codes "access") (kind_text kind) (decimal size) (hex_word at) verdict both.1) refl
+    rw (
+      kind_back kind,
+      small_of_decimal size (size_small size both.0),
+      number_of_hex at typed,
+      verdict_back (codes "unit") (codes "access") (kind_text kind) (decimal size) (hex_word at) verdict both.1,
+    ) refl
 
 unit_first : (cfg : Config) (l : UnitLine) → word_at (unit_words cfg l) 0 ≡ codes "unit"
 unit_first cfg (line.Switch b) = refl

@@ -1,8 +1,8 @@
 -- The first line of some bytes is one item's line or one end's line at most.
-use Rattle.std.proofs.Common.{◌≡◌, ◌≢◌, ℕ, zero, suc, ◌+◌, ◌^◌, ◌<◌, ◌≤◌, Bool, true, false, List, [], ◌∷◌, ◌++◌, length, get_or, lit≤, refl, ap, sym, ◌∙◌, arith, append_assoc, length-append}
+use Rattle.std.proofs.Common.{◌≡◌, ◌≢◌, ℕ, suc, ◌^◌, ◌<◌, ◌≤◌, true, false, List, [], ◌∷◌, ◌++◌, length, get_or, lit≤, refl, ap, sym, ◌∙◌, arith, append_assoc, length-append}
 use Rattle.std.specs.Prelude.{codes, map}
 use Rattle.std.specs.Fmt.{decimal}
-use Rattle.std.specs.List.{join_with_byte, list_all}
+use Rattle.std.specs.List.{join_with_byte}
 use Rattle.std.specs.Str.{bytes_eq}
 use Rattle.std.proofs.lemmas.List.{append_cancel_right}
 use Rattle.flat_model.specs.declared.events.Choice.{Choice}
@@ -18,7 +18,7 @@ use Rattle.flat_model.specs.Log.{is_named_item}
 use Rattle.flat_model.specs.Sound.{IsSound}
 use Rattle.flat_model.specs.Text.{end_line, entry_words, hex_word, item_line, item_words, mode_text, thread_text, unit_words}
 use Rattle.run_log.specs.Candidates.{end_of, item_of, word_at, words_of}
-use Rattle.run_log.specs.Lines.{HasNoLine, IsParted}
+use Rattle.run_log.specs.Lines.{HasNoLine}
 use Rattle.run_log.specs.Spaced.{spaced}
 use Rattle.run_log.specs.Stops.{HasNoEnd, HasNoItem, IsEndAt, IsEndOf, IsItemAt, IsItemOf, IsNoEnd, IsNoItem}
 use Rattle.run_log.specs.Typed.{IsTypedEnd, IsTypedItem}
@@ -165,15 +165,15 @@ has_no_end cfg t l r sound small feedless none = record { none = λ end after at
 pub no_item_feedless : (cfg : Config) (bytes : List ℕ) → Feedless bytes → HasNoItem cfg bytes
 no_item_feedless cfg bytes feedless = record {
   none = λ i after at.
-    let whole : bytes ≡ item_body cfg i ++ 10 ∷ after = at.whole ∙ ap (λ xs. xs ++ after) (item_line_is cfg i) ∙ with_feed (item_body cfg i) after in
-    no_feedless (item_body cfg i) after (rw whole at feedless);
+      let whole : bytes ≡ item_body cfg i ++ 10 ∷ after = at.whole ∙ ap (λ xs. xs ++ after) (item_line_is cfg i) ∙ with_feed (item_body cfg i) after in
+      no_feedless (item_body cfg i) after (rw whole at feedless);
 }
 
 pub no_end_feedless : (cfg : Config) (t : ℕ) (bytes : List ℕ) → Feedless bytes → HasNoEnd cfg t bytes
 no_end_feedless cfg t bytes feedless = record {
   none = λ end after at.
-    let whole : bytes ≡ end_body cfg t end ++ 10 ∷ after = at.whole ∙ ap (λ xs. xs ++ after) (end_line_is cfg t end) ∙ with_feed (end_body cfg t end) after in
-    no_feedless (end_body cfg t end) after (rw whole at feedless);
+      let whole : bytes ≡ end_body cfg t end ++ 10 ∷ after = at.whole ∙ ap (λ xs. xs ++ after) (end_line_is cfg t end) ∙ with_feed (end_body cfg t end) after in
+      no_feedless (end_body cfg t end) after (rw whole at feedless);
 }
 
 -- what follows the first line makes no difference to whether it is an item's
@@ -191,7 +191,7 @@ other_rest_end cfg t l r s sound small feedless none =
 
 -- two items at the front of the same bytes are one
 pub item_unique : (cfg : Config) (i j : Logged) (r s : List ℕ) → IsSound cfg → is_named_item cfg i ≡ true → IsTypedItem i → is_named_item cfg j ≡ true → IsTypedItem j
-  → item_line cfg i ++ r ≡ item_line cfg j ++ s → (i ≡ j) × (r ≡ s)
+    → item_line cfg i ++ r ≡ item_line cfg j ++ s → (i ≡ j) × (r ≡ s)
 item_unique cfg i j r s sound named typed named' typed' e =
     let body = item_body cfg i in
     let front : body ++ 10 ∷ r ≡ item_line cfg j ++ s = sym (with_feed body r) ∙ ap (λ xs. xs ++ r) (sym (item_line_is cfg i)) ∙ e in
@@ -201,7 +201,7 @@ item_unique cfg i j r s sound named typed named' typed' e =
 
 -- two ends at the front of the same bytes are one
 pub end_unique : (cfg : Config) (t : ℕ) (i j : End) (r s : List ℕ) → IsSound cfg → t < 2 ^ 64 → IsTypedEnd i → IsTypedEnd j
-  → end_line cfg t i ++ r ≡ end_line cfg t j ++ s → (i ≡ j) × (r ≡ s)
+    → end_line cfg t i ++ r ≡ end_line cfg t j ++ s → (i ≡ j) × (r ≡ s)
 end_unique cfg t i j r s sound small typed typed' e =
     let body = end_body cfg t i in
     let front : body ++ 10 ∷ r ≡ end_line cfg t j ++ s = sym (with_feed body r) ∙ ap (λ xs. xs ++ r) (sym (end_line_is cfg t i)) ∙ e in
@@ -211,13 +211,13 @@ end_unique cfg t i j r s sound small typed typed' e =
 
 -- no item's line is a line of an end
 pub item_not_end : (cfg : Config) (i : Logged) (t : ℕ) (end : End) (r s : List ℕ) → IsSound cfg → is_named_item cfg i ≡ true → IsTypedItem i → t < 2 ^ 64 → IsTypedEnd end
-  → item_line cfg i ++ r ≡ end_line cfg t end ++ s → ⊥
+    → item_line cfg i ++ r ≡ end_line cfg t end ++ s → ⊥
 item_not_end cfg i t end r s sound named typed small typed' e =
     let front : item_body cfg i ++ 10 ∷ r ≡ end_body cfg t end ++ 10 ∷ s =
-      sym (with_feed (item_body cfg i) r) ∙ ap (λ xs. xs ++ r) (sym (item_line_is cfg i)) ∙ e ∙ ap (λ xs. xs ++ s) (end_line_is cfg t end) ∙ with_feed (end_body cfg t end) s in
+    sym (with_feed (item_body cfg i) r) ∙ ap (λ xs. xs ++ r) (sym (item_line_is cfg i)) ∙ e ∙ ap (λ xs. xs ++ s) (end_line_is cfg t end) ∙ with_feed (end_body cfg t end) s in
     let parts = line_split (item_body cfg i) (end_body cfg t end) r s (item_feedless cfg i sound named typed) (end_feedless cfg t end sound small typed') front in
     let words : item_words cfg i ≡ end_words cfg t end =
-      sym (item_words_back cfg i sound named typed) ∙ ap words_of parts.0 ∙ end_words_back cfg t end sound small typed' in
+    sym (item_words_back cfg i sound named typed) ∙ ap words_of parts.0 ∙ end_words_back cfg t end sound small typed' in
     let tested : false ≡ true = sym (item_has_first cfg i).other ∙ ap (λ ws. bytes_eq (word_at ws 0) (codes "thread")) words in
     absurd (cc)
 

@@ -1,6 +1,6 @@
 -- The reading of a text, line by line.
-use Rattle.std.proofs.Common.{◌≡◌, ℕ, zero, suc, ◌+◌, ◌*◌, ◌<◌, ◌≤◌, Bool, true, List, [], ◌∷◌, ◌++◌, length, Result, Ok, Err, refl, ap, sym, ◌∙◌, arith, inl, inr, ◌⊎◌, append_assoc, length-append}
-use Rattle.std.specs.List.{AllByRecursion, flat_map, list_all}
+use Rattle.std.proofs.Common.{◌≡◌, ℕ, ◌+◌, ◌<◌, Bool, true, List, [], ◌∷◌, ◌++◌, length, Result, Ok, Err, refl, ap, sym, ◌∙◌, arith, inr, ◌⊎◌, append_assoc, length-append}
+use Rattle.std.specs.List.{flat_map, list_all}
 use Rattle.std.proofs.lemmas.List.{append-nil, flat_map_more}
 use Rattle.std.proofs.lemmas.List.Folds.{list_all-append}
 use Rattle.flat_model.proofs.Elements.{each-append}
@@ -25,7 +25,7 @@ all_push p is i all one = list_all-append p is (i ∷ []) ∙ rw (all, one) refl
 
 -- one more item was read
 pub items_more : (cfg : Config) (bytes : List ℕ) (is : List Logged) (rest : List ℕ) (i : Logged) (after : List ℕ) → AreItemsOf cfg bytes is rest → IsItemAt cfg rest i after
-  → AreItemsOf cfg bytes (is ++ i ∷ []) after
+    → AreItemsOf cfg bytes (is ++ i ∷ []) after
 items_more cfg bytes is rest i after read at =
     let lines = flat_map (item_line cfg) is in
     let all : lines ++ item_line cfg i ≡ flat_map (item_line cfg) (is ++ i ∷ []) = flat_map_more (item_line cfg) [] is i in
@@ -42,7 +42,7 @@ item_shorter cfg rest i after at = omega (arith, ap length at.whole, length-appe
 
 -- one more end was read
 pub ends_more : (cfg : Config) (bytes : List ℕ) (es : List End) (rest : List ℕ) (t : ℕ) (e : End) (after : List ℕ) → AreEndsOf cfg bytes es rest → length es ≡ t → IsEndAt cfg t rest e after
-  → AreEndsOf cfg bytes (es ++ e ∷ []) after
+    → AreEndsOf cfg bytes (es ++ e ∷ []) after
 ends_more cfg bytes es rest t e after read count at =
     let lines = end_lines cfg 0 es in
     let place : t ≡ 0 + length es = omega (arith, count) in
@@ -50,13 +50,13 @@ ends_more cfg bytes es rest t e after read count at =
     record {
       typed = each-append IsTypedEnd es (e ∷ []) read.typed (at.typed, tt);
       whole = read.whole ∙ ap (λ xs. lines ++ xs) at.whole ∙ sym (append_assoc lines (end_line cfg t e) after)
-        ∙ ap (λ xs. (lines ++ xs) ++ after) (sym (append-nil (end_line cfg t e))) ∙ ap (λ xs. xs ++ after) all;
+          ∙ ap (λ xs. (lines ++ xs) ++ after) (sym (append-nil (end_line cfg t e))) ∙ ap (λ xs. xs ++ after) all;
       short = omega (arith, read.short, ap length at.whole, length-append (end_line cfg t e) after, end_long cfg t e, length-append es (e ∷ []));
     }
 
 -- why the reading failed
 pub ends_cause : (cfg : Config) (bytes : List ℕ) (is : List Logged) (rest : List ℕ) (before : ℕ) (e : LogErr) → IsSound cfg → AreItemsOf cfg bytes is rest → HasNoItem cfg rest
-  → before ≡ length is → EndsFail cfg rest before e → IsCause cfg bytes e
+    → before ≡ length is → EndsFail cfg rest before e → IsCause cfg bytes e
 ends_cause cfg bytes is rest before (BadText k) sound read none count fail = stops_is_bad cfg bytes is rest k sound read none (rw (← count) fail)
 ends_cause cfg bytes is rest before Memory sound read none count fail = tt
 
@@ -67,7 +67,7 @@ memory_only cfg bytes Memory r log is cause of = inr is
 
 -- what was read is a log of the bytes
 pub read_is : (cfg : Config) (bytes : List ℕ) (is : List Logged) (rest : List ℕ) (es : List End) → AreItemsOf cfg bytes is rest → AreEndsOf cfg rest es [] → length es ≡ length cfg.threads
-  → IsLogOf cfg bytes (record { items = is; ends = es })
+    → IsLogOf cfg bytes (record { items = is; ends = es })
 read_is cfg bytes is rest es items ends count = record {
   named = record { items = items.named; ends = count };
   typed = record { items = items.typed; ends = ends.typed };

@@ -1,8 +1,7 @@
 -- Reading digits with a cap gives the capped number, and what is printed of a number reads as that number.
-use Rattle.std.proofs.Common.{◌≡◌, ℕ, zero, suc, ◌+◌, ◌-◌, ◌*◌, ◌/◌, ◌%◌, ◌^◌, ◌<◌, ◌≤◌, Bool, true, false, nat_lt, min, List, [], ◌∷◌, ◌++◌, length, get_or, drop, refl, ap, sym, ◌∙◌, arith, inl, inr}
-use Rattle.std.specs.Prelude.{if◌then◌else◌}
+use Rattle.std.proofs.Common.{◌≡◌, ℕ, zero, suc, ◌+◌, ◌*◌, ◌/◌, ◌%◌, ◌^◌, ◌<◌, ◌≤◌, min, List, [], ◌∷◌, ◌++◌, length, get_or, drop, refl, sym, ◌∙◌, arith, inl, inr}
 use Rattle.std.specs.Fmt.{decimal}
-use Rattle.std.proofs.lemmas.Bool.{cases_lt, lt-ltb}
+use Rattle.std.proofs.lemmas.Bool.{cases_lt}
 use Rattle.std.proofs.lemmas.Bool.Decides.{nat_tests}
 use Rattle.std.proofs.lemmas.Fmt.{decimal_by_steps}
 use Rattle.std.proofs.lemmas.List.{at_drop_more}
@@ -23,7 +22,7 @@ number_after_ge radix n (b ∷ bs) h =
 capped : (cap radix n : ℕ) (bs : List ℕ) → 1 ≤ radix → min (number_after radix (min n cap) bs) cap ≡ min (number_after radix n bs) cap
 capped cap radix n bs h =
     elim (cases_lt n cap) as (λ _. min (number_after radix (min n cap) bs) cap ≡ min (number_after radix n bs) cap) [
-      inl below ↦ let e : min n cap ≡ n = omega arith in rw e
+      | inl below ↦ let e : min n cap ≡ n = omega arith in rw e
       | inr above ↦
           let e : min n cap ≡ cap = omega arith in
           let low = number_after_ge radix cap bs h in
@@ -33,7 +32,7 @@ capped cap radix n bs h =
 
 -- one more digit, where the number so far is capped
 pub capped_more : (cap radix n all : ℕ) (bs : List ℕ) (i : ℕ) → 1 ≤ radix → i < length bs → min (number_after radix n (drop i bs)) cap ≡ all
-  → min (number_after radix (min (n * radix + digit_of (get_or bs i 0)) cap) (drop (i + 1) bs)) cap ≡ all
+    → min (number_after radix (min (n * radix + digit_of (get_or bs i 0)) cap) (drop (i + 1) bs)) cap ≡ all
 capped_more cap radix n all bs i h lt before =
     capped cap radix (n * radix + digit_of (get_or bs i 0)) (drop (i + 1) bs) h
     ∙ sym (at_drop_more (λ xs. min (number_after radix n xs) cap) bs i 0 lt)
@@ -54,7 +53,7 @@ digit_of_hex d h = grind (arith, nat_tests)
 number_after_decimal : (n : ℕ) → n < 2 ^ 64 → number_after 10 0 (decimal n) ≡ n
 number_after_decimal n h =
     decimal_by_steps (λ m ds. number_after 10 0 ds ≡ m) (λ m small. omega (arith, digit_of_decimal m small))
-      (λ m ds _ front. number_after-push 10 0 ds (48 + m % 10) ∙ rw (front, digit_of_decimal (m % 10) (omega arith)) (omega arith)) n h
+    (λ m ds _ front. number_after-push 10 0 ds (48 + m % 10) ∙ rw (front, digit_of_decimal (m % 10) (omega arith)) (omega arith)) n h
 
 number_after_hex : (k n : ℕ) → n < 16 ^ k → number_after 16 0 (hex_digits k n) ≡ n
 number_after_hex zero n h = omega arith

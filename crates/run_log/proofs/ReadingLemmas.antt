@@ -1,5 +1,5 @@
 -- What the reading of one line answers.
-use Rattle.std.proofs.Common.{◌≡◌, ℕ, ◌^◌, ◌<◌, Bool, true, false, List, [], ◌∷◌, ◌++◌, refl, ap, sym, ◌∙◌, arith, append_assoc}
+use Rattle.std.proofs.Common.{◌≡◌, ℕ, ◌^◌, ◌<◌, Bool, true, false, List, [], ◌∷◌, ◌++◌, ap, sym, ◌∙◌, append_assoc}
 use Rattle.std.specs.Cmp.Lexicographic.{pointwise}
 use Rattle.std.specs.Prelude.{nat_eq}
 use Rattle.std.proofs.lemmas.Bool.Decides.{Decides-eqb}
@@ -19,7 +19,7 @@ use Rattle.run_log.proofs.TypedBack.{typed_end, typed_item}
 
 -- what was printed is the line, exactly where the text is the line with a line feed
 pub same_line : (old page line text : List ℕ) (r : Bool) → old ≡ [] → page ++ 10 ∷ [] ≡ old ++ text → r ≡ pointwise nat_eq page line
-  → (r ≡ true → text ≡ line ++ 10 ∷ []) × (text ≡ line ++ 10 ∷ [] → r ≡ true)
+    → (r ≡ true → text ≡ line ++ 10 ∷ []) × (text ≡ line ++ 10 ∷ [] → r ≡ true)
 same_line old page line text r none printed test =
     let decides = slice_eq-Decides Decides-eqb page line r test in
     let whole : page ++ 10 ∷ [] ≡ text = printed ∙ ap (λ xs. xs ++ text) none in
@@ -31,8 +31,8 @@ item_found cfg line i is named text = record { named = named; typed = rw is (typ
 pub item_unnamed : (cfg : Config) (line : List ℕ) (i : Logged) → IsSound cfg → i ≡ item_of cfg (words_of line) → is_named_item cfg i ≡ false → IsNoItem cfg line
 item_unnamed cfg line i sound is named = record {
   none = λ j of.
-    let same : i ≡ j = is ∙ item_of_line cfg line j sound of in
-    let both : false ≡ true = sym named ∙ ap (is_named_item cfg) same ∙ of.named in absurd (cc);
+      let same : i ≡ j = is ∙ item_of_line cfg line j sound of in
+      let both : false ≡ true = sym named ∙ ap (is_named_item cfg) same ∙ of.named in absurd (cc);
 }
 
 pub item_other : (cfg : Config) (line : List ℕ) (i : Logged) → IsSound cfg → i ≡ item_of cfg (words_of line) → (item_line cfg i ≡ line ++ 10 ∷ [] → ⊥) → IsNoItem cfg line

@@ -1,7 +1,6 @@
 -- The configuration of the tests is sound.
-use Rattle.std.proofs.Common.{◌≡◌, ℕ, ◌+◌, ◌<◌, ◌≤◌, Bool, true, false, refl, arith}
-use Rattle.std.specs.Prelude.{nat_le, nat_lt, ◌&&◌}
-use Rattle.std.proofs.lemmas.Bool.{false_from_ne_true, and_parts, leb-true, ltb-true}
+use Rattle.std.proofs.Common.{◌≤◌, refl, arith}
+use Rattle.std.proofs.lemmas.Bool.{false_from_ne_true}
 use Rattle.addr_base.specs.declared.ranges.Range.{Range}
 use Rattle.addr_base.specs.Range.{end_of, in_range}
 use Rattle.flat_model.specs.Sound.{AreApart, IsSound}
@@ -18,54 +17,57 @@ apart_above first second order = λ a here. false_from_ne_true (in_range second 
 -- the configuration of the tests is sound
 pub IsSound-sample : IsSound sample_config
 IsSound-sample = record {
-    version = refl;
-    limits = record {
-        some_box = omega arith;
-        boxes = omega arith;
-        threads = omega arith;
-        devices = omega arith;
-        words = omega arith;
-        registers = omega arith;
-        gateways = omega arith;
-        steps = omega arith;
-        script = omega arith;
-        ring_words = omega arith;
-        rings = omega arith;
-    };
-    board = record {
-        flash = record { power = (20, refl); enough = omega arith; aligned = refl };
-        flash_bank = record { within = omega arith; ends = omega arith };
-        sram = record { enough = omega arith; base = refl; len = refl };
-        sram_bank = record { within = omega arith; ends = omega arith };
-        sram_apart = apart_above sample_config.board.sram sample_config.board.flash (omega arith);
-        peripherals = record { enough = omega arith; base = refl; len = refl };
-        peripherals_bank = record { within = omega arith; ends = omega arith };
-        peripherals_apart = apart_above sample_config.board.peripherals sample_config.board.flash (omega arith);
-        peripherals_beside = apart_above sample_config.board.peripherals sample_config.board.sram (omega arith);
-        secret = tt;
-        words = tt;
-        words_once = tt;
-        heap = tt;
-    };
-    names_once = (refl, tt);
-    boxes = (record {
-        name = refl;
-        items = refl;
-        grants = tt;
-        grants_apart = tt;
-        few_grants = omega arith;
-        few_lines = omega arith;
-        lines = tt;
-    }, tt);
-    numbered = (refl, omega arith, omega arith, omega arith, tt);
-    homes = refl;
-    threads = (record { some_step = omega arith; few_steps = omega arith; short = omega arith; valid = (tt, tt) }, tt);
-    placed = (record { power = (8, refl); enough = omega arith; aligned = refl; not_below = omega arith; least = omega arith }, tt);
-    room = omega arith;
-    one_owner = omega arith;
-    lines_once = tt;
-    registers = tt;
-    gateways = tt;
-    devices = tt;
-    script = tt;
+  version = refl;
+  limits = record {
+    some_box = omega arith;
+    boxes = omega arith;
+    threads = omega arith;
+    devices = omega arith;
+    words = omega arith;
+    registers = omega arith;
+    gateways = omega arith;
+    steps = omega arith;
+    script = omega arith;
+    ring_words = omega arith;
+    rings = omega arith;
+  };
+  board = record {
+    flash = record { power = (20, refl); enough = omega arith; aligned = refl };
+    flash_bank = record { within = omega arith; ends = omega arith };
+    sram = record { enough = omega arith; base = refl; len = refl };
+    sram_bank = record { within = omega arith; ends = omega arith };
+    sram_apart = apart_above sample_config.board.sram sample_config.board.flash (omega arith);
+    peripherals = record { enough = omega arith; base = refl; len = refl };
+    peripherals_bank = record { within = omega arith; ends = omega arith };
+    peripherals_apart = apart_above sample_config.board.peripherals sample_config.board.flash (omega arith);
+    peripherals_beside = apart_above sample_config.board.peripherals sample_config.board.sram (omega arith);
+    secret = tt;
+    words = tt;
+    words_once = tt;
+    heap = tt;
+  };
+  names_once = (refl, tt);
+  boxes = (
+    record {
+      name = refl;
+      items = refl;
+      grants = tt;
+      grants_apart = tt;
+      few_grants = omega arith;
+      few_lines = omega arith;
+      lines = tt;
+    },
+    tt,
+  );
+  numbered = (refl, omega arith, omega arith, omega arith, tt);
+  homes = refl;
+  threads = (record { some_step = omega arith; few_steps = omega arith; short = omega arith; valid = (tt, tt) }, tt);
+  placed = (record { power = (8, refl); enough = omega arith; aligned = refl; not_below = omega arith; least = omega arith }, tt);
+  room = omega arith;
+  one_owner = omega arith;
+  lines_once = tt;
+  registers = tt;
+  gateways = tt;
+  devices = tt;
+  script = tt;
 }

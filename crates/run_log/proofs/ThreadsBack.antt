@@ -1,8 +1,8 @@
 -- What is printed of a box, a thread and a ticket reads as that box, thread and ticket.
-use Rattle.std.proofs.Common.{◌≡◌, ℕ, zero, suc, ◌+◌, ◌-◌, ◌^◌, ◌<◌, ◌≤◌, Bool, true, false, not, nat_lt, min, List, [], ◌∷◌, ◌++◌, length, replicate, Option, Some, None, refl, ap, sym, ◌∙◌, arith, inl, inr, ◌⊎◌, append_assoc, zero-add}
-use Rattle.std.specs.Prelude.{nat_eq, nat_le, slice_get, ◌&&◌, ◌||◌, map, codes}
+use Rattle.std.proofs.Common.{◌≡◌, ℕ, zero, suc, ◌+◌, ◌-◌, ◌^◌, ◌<◌, ◌≤◌, Bool, true, false, min, List, [], ◌∷◌, ◌++◌, length, replicate, Some, refl, ap, sym, ◌∙◌, arith, inl, inr, ◌⊎◌, append_assoc, zero-add}
+use Rattle.std.specs.Prelude.{nat_eq, nat_le, slice_get, ◌&&◌, ◌||◌, map}
 use Rattle.std.specs.Fmt.{decimal}
-use Rattle.std.specs.List.{AllByRecursion, list_all, list_any, position_or_len, prefix_len, before_first, after_first}
+use Rattle.std.specs.List.{AllByRecursion, list_all, list_any, position_or_len}
 use Rattle.std.specs.Option.{option_map, option_map_or}
 use Rattle.std.specs.Str.{bytes_eq}
 use Rattle.std.proofs.lemmas.Bool.{eq-eqb}
@@ -23,7 +23,7 @@ use Rattle.flat_model.specs.Placing.{common_range}
 use Rattle.flat_model.specs.Sound.{AreNumbered, homes_from, IsBox, IsSound}
 use Rattle.flat_model.specs.Step.{home_of}
 use Rattle.flat_model.specs.Text.{box_name, first_thread, thread_text, ticket_text}
-use Rattle.run_log.specs.Candidates.{box_of, is_dot, is_hash, number_of, thread_of, ticket_of}
+use Rattle.run_log.specs.Candidates.{box_of, is_dot, is_hash, thread_of, ticket_of}
 use Rattle.run_log.proofs.NumberLemmas.{number_of_decimal}
 use Rattle.run_log.proofs.WordLemmas.{AllAbove, above-append, above-lower, above_decimal, after_first_is, before_first_is, dot_above, dot_is, hash_above, hash_is}
 
@@ -45,7 +45,7 @@ name_above (b ∷ bs) h =
     (lower_above b (both_true (is_lower b) (nat_le (length bs) 15) both.0).0, name_bytes_above bs both.1)
 
 parts_above : (board : Board) (common : Range) (parts : List BoxPart) → AllByRecursion (IsBox board common) parts → (b : ℕ)
-  → AllAbove 46 (option_map_or (λ part. part.name) (slice_get parts b) [])
+    → AllAbove 46 (option_map_or (λ part. part.name) (slice_get parts b) [])
 parts_above board common [] each b = tt
 parts_above board common (part ∷ parts) each zero = name_above part.name each.0.name
 parts_above board common (part ∷ parts) each (suc b) = parts_above board common parts each.1 b
@@ -55,7 +55,7 @@ pub box_name_above : (cfg : Config) (b : ℕ) → IsSound cfg → AllAbove 46 (b
 box_name_above cfg b sound = parts_above cfg.board (common_range cfg.board cfg.boxes) cfg.boxes sound.boxes b
 
 homes_in : (n : ℕ) (h0 h : BoxId) (rest : List BoxId) (t : ℕ) → slice_get (replicate n h0 ++ rest) t ≡ Some h
-  → (h0 ≡ h) ⊎ ((u : ℕ) × (t ≡ n + u) × (slice_get rest u ≡ Some h))
+    → (h0 ≡ h) ⊎ ((u : ℕ) × (t ≡ n + u) × (slice_get rest u ≡ Some h))
 homes_in zero h0 h rest t e = inr (t, omega arith, e)
 homes_in (suc n) h0 h rest zero e = inl (cc)
 homes_in (suc n) h0 h rest (suc t) e =
@@ -73,7 +73,7 @@ home_is : (b first : ℕ) (parts : List BoxPart) (t : ℕ) (h : BoxId) → AreNu
 home_is b first [] t h numbered e = absurd (cc)
 home_is b first (part ∷ parts) t h numbered e =
     elim (homes_in part.threads (record { 0 = b }) h (homes_from (b + 1) parts) t e) [
-      inl same ↦ record { place = 0; part = part; found = refl; number = sym (ap (λ id. id.0) same) ∙ omega arith; first = omega (arith, numbered.0) }
+      | inl same ↦ record { place = 0; part = part; found = refl; number = sym (ap (λ id. id.0) same) ∙ omega arith; first = omega (arith, numbered.0) }
       | inr later ↦
           let rest = home_is (b + 1) (first + part.threads) parts later.0 h numbered.4 later.2 in
           record {
@@ -91,7 +91,7 @@ thread_home cfg t sound below =
     let some = slice_get_some cfg.threads t below in
     let home : home_of cfg t ≡ some.0.home = ap (λ o. option_map_or (λ (thread : ThreadPart). thread.home) o (record { 0 = 0 })) some.1 in
     let listed : slice_get (map (λ (thread : ThreadPart). thread.home) cfg.threads) t ≡ Some some.0.home =
-      slice_get-map (λ (thread : ThreadPart). thread.home) cfg.threads t ∙ ap (option_map (λ (thread : ThreadPart). thread.home)) some.1 in
+    slice_get-map (λ (thread : ThreadPart). thread.home) cfg.threads t ∙ ap (option_map (λ (thread : ThreadPart). thread.home)) some.1 in
     let found : slice_get (homes_from 0 cfg.boxes) t ≡ Some some.0.home = sym (ap (λ hs. slice_get hs t) sound.homes) ∙ listed in
     let is : IsHome 0 cfg.boxes (0 + t) some.0.home = home_is 0 0 cfg.boxes t some.0.home sound.numbered found in
     rw home (record { place = is.place; part = is.part; found = is.found; number = is.number; first = omega (arith, is.first) })
@@ -110,7 +110,7 @@ none_at p (y ∷ ys) zero x none found = let same : y ≡ x = cc in rw (← same
 none_at p (y ∷ ys) (suc i) x none found = none_at p ys i x (none_true (p y) (list_any p ys) none).1 found
 
 place_of_name : (parts : List BoxPart) (k : ℕ) (part : BoxPart) → AreDistinctNames (map (λ q. q.name) parts) → slice_get parts k ≡ Some part
-  → position_or_len (λ q. bytes_eq q.name part.name) parts ≡ k
+    → position_or_len (λ q. bytes_eq q.name part.name) parts ≡ k
 place_of_name [] k part distinct found = absurd (cc)
 place_of_name (q ∷ qs) zero part distinct found =
     let same : q ≡ part = cc in
@@ -118,7 +118,7 @@ place_of_name (q ∷ qs) zero part distinct found =
     rw passes refl
 place_of_name (q ∷ qs) (suc k) part distinct found =
     let listed : slice_get (map (λ (p : BoxPart). p.name) qs) k ≡ Some part.name =
-      slice_get-map (λ (p : BoxPart). p.name) qs k ∙ ap (option_map (λ (p : BoxPart). p.name)) found in
+    slice_get-map (λ (p : BoxPart). p.name) qs k ∙ ap (option_map (λ (p : BoxPart). p.name)) found in
     let other : bytes_eq q.name part.name ≡ false = none_at (bytes_eq q.name) (map (λ (p : BoxPart). p.name) qs) k part.name distinct.0 listed in
     rw (other, place_of_name qs k part distinct.1 found) (omega arith)
 
@@ -161,7 +161,7 @@ thread_above cfg t sound small =
     let home = home_of cfg t.0 in
     let index = t.0 - first_thread cfg home.0 in
     rw thread_split (above-append 35 (box_name cfg home.0) (46 ∷ decimal index) (above-lower 35 46 (box_name cfg home.0) (omega arith) (box_name_above cfg home.0 sound))
-      (omega arith, above-lower 35 47 (decimal index) (omega arith) (above_decimal index (omega (arith, small)))))
+    (omega arith, above-lower 35 47 (decimal index) (omega arith) (above_decimal index (omega (arith, small)))))
 
 ticket_split : (cfg : Config) (ticket : Ticket) → ticket_text cfg ticket ≡ thread_text cfg ticket.thread ++ (35 ∷ decimal ticket.seq)
 ticket_split cfg ticket = append_assoc (thread_text cfg ticket.thread) (35 ∷ []) (decimal ticket.seq)
@@ -179,5 +179,5 @@ ticket_of_text cfg ticket sound below small =
 pub ticket_above : (cfg : Config) (ticket : Ticket) → IsSound cfg → ticket.thread.0 < 2 ^ 64 → ticket.seq < 2 ^ 64 → AllAbove 32 (ticket_text cfg ticket)
 ticket_above cfg ticket sound small few =
     rw ticket_split (above-append 32 (thread_text cfg ticket.thread) (35 ∷ decimal ticket.seq)
-      (above-lower 32 35 (thread_text cfg ticket.thread) (omega arith) (thread_above cfg ticket.thread sound small))
-      (omega arith, above-lower 32 47 (decimal ticket.seq) (omega arith) (above_decimal ticket.seq few)))
+    (above-lower 32 35 (thread_text cfg ticket.thread) (omega arith) (thread_above cfg ticket.thread sound small))
+    (omega arith, above-lower 32 47 (decimal ticket.seq) (omega arith) (above_decimal ticket.seq few)))

@@ -1,13 +1,9 @@
 -- What is read of a line has numbers of its types.
-use Rattle.std.proofs.Common.{◌≡◌, ℕ, zero, suc, ◌+◌, ◌^◌, ◌<◌, ◌≤◌, Bool, true, false, min, List, [], ◌∷◌, refl, arith}
-use Rattle.std.specs.Prelude.{if◌then◌else◌, nat_eq, codes}
+use Rattle.std.proofs.Common.{ℕ, zero, suc, Bool, true, false, List, refl, arith}
+use Rattle.std.specs.Prelude.{if◌then◌else◌}
 use Rattle.std.specs.List.{AllByRecursion}
-use Rattle.std.specs.Str.{bytes_eq}
-use Rattle.flat_model.specs.declared.events.Logged.{Logged}
 use Rattle.flat_model.specs.declared.events.Logged.TheVariants as item
-use Rattle.flat_model.specs.declared.events.Reply.{Reply}
 use Rattle.flat_model.specs.declared.events.Reply.TheVariants as reply
-use Rattle.flat_model.specs.declared.events.UnitLine.{UnitLine}
 use Rattle.flat_model.specs.declared.events.UnitLine.TheVariants as line
 use Rattle.flat_model.specs.declared.parts.Config.{Config}
 use Rattle.addr_base.specs.declared.identity.Ticket.{Ticket}
@@ -68,7 +64,7 @@ typed_start_reply : (cfg : Config) (ws : List (List ℕ)) → Holds IsTypedReply
 unfolding start_reply_of
 typed_start_reply cfg ws =
     if_both _ (that (reply.Begun (started_of cfg (ticket_of cfg (word_at ws 2)) ws)) (typed_started cfg (ticket_of cfg (word_at ws 2)) ws))
-      (that (reply.Status 12) (omega arith))
+    (that (reply.Status 12) (omega arith))
 
 typed_turn : (cfg : Config) (ws : List (List ℕ)) → IsTypedItem (turn_of cfg ws)
 unfolding turn_of
@@ -91,9 +87,9 @@ unfolding unit_of
 typed_unit cfg ws =
     if_both _ (that (line.Switch (box_of cfg (word_at ws 2))) tt)
     (if_both _ (that (line.Rotate (small_of (word_at ws 2)) (record { rbar = number_of 16 (word_at ws 3); rasr = number_of 16 (word_at ws 4) }))
-      (number_fits 16 (word_at ws 3), number_fits 16 (word_at ws 4)))
+    (number_fits 16 (word_at ws 3), number_fits 16 (word_at ws 4)))
     (if_both _ (that (line.Access (kind_of (word_at ws 2)) (small_of (word_at ws 3)) (number_of 16 (word_at ws 4)) (verdict_of ws)) (number_fits 16 (word_at ws 4)))
-      (that line.Flush tt)))
+    (that line.Flush tt)))
 
 read_item : (cfg : Config) (ws : List (List ℕ)) → Holds IsTypedItem (item_of cfg ws)
 unfolding item_of
@@ -114,8 +110,18 @@ typed_end ws = record {
   steps = number_fits 10 (word_at ws 3);
   regs = record {
     count = refl;
-    each =
-      (number_fits 16 (word_at ws 4), (number_fits 16 (word_at ws 5), (number_fits 16 (word_at ws 6), (number_fits 16 (word_at ws 7),
-        (number_fits 16 (word_at ws 8), (number_fits 16 (word_at ws 9), (number_fits 16 (word_at ws 10), (number_fits 16 (word_at ws 11), tt))))))));
+    each = (
+      number_fits 16 (word_at ws 4),
+      (
+        number_fits 16 (word_at ws 5),
+        (
+          number_fits 16 (word_at ws 6),
+          (
+            number_fits 16 (word_at ws 7),
+            (number_fits 16 (word_at ws 8), (number_fits 16 (word_at ws 9), (number_fits 16 (word_at ws 10), (number_fits 16 (word_at ws 11), tt)))),
+          ),
+        ),
+      ),
+    );
   };
 }

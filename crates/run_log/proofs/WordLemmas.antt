@@ -1,13 +1,12 @@
 -- Which bytes the words of a line have, and how a line is taken apart.
-use Rattle.std.proofs.Common.{◌≡◌, ℕ, zero, suc, ◌+◌, ◌-◌, ◌*◌, ◌/◌, ◌%◌, ◌^◌, ◌<◌, ◌≤◌, Bool, true, false, not, nat_lt, List, [], ◌∷◌, ◌++◌, length, take, drop, refl, ap, sym, ◌∙◌, arith, append_assoc, length-append}
-use Rattle.std.specs.Prelude.{nat_eq, map}
+use Rattle.std.proofs.Common.{◌≡◌, ℕ, zero, suc, ◌+◌, ◌/◌, ◌%◌, ◌^◌, ◌<◌, ◌≤◌, Bool, true, false, List, [], ◌∷◌, ◌++◌, length, drop, refl, ap, sym, ◌∙◌, arith, append_assoc, length-append}
 use Rattle.std.specs.Fmt.{decimal}
-use Rattle.std.specs.List.{after_first, before_first, join_with_byte, onto_first, position_or_len, prefix_len, slice_split}
-use Rattle.std.proofs.lemmas.Bool.{cases_lt, lt-ltb, ne_eqb}
+use Rattle.std.specs.List.{after_first, before_first, join_with_byte, position_or_len, slice_split}
+use Rattle.std.proofs.lemmas.Bool.{ne_eqb}
 use Rattle.std.proofs.lemmas.Bool.Decides.{nat_tests}
 use Rattle.std.proofs.lemmas.Fmt.{decimal_by_steps}
 use Rattle.std.proofs.lemmas.List.{drop_at, take_at}
-use Rattle.flat_model.specs.Text.{hex_digit, hex_digits, hex_word, line_of}
+use Rattle.flat_model.specs.Text.{hex_digit, hex_digits, hex_word}
 use Rattle.run_log.specs.Candidates.{is_dot, is_hash, is_space, words_of}
 
 -- each byte is above a number
@@ -35,7 +34,7 @@ words-append (v ∷ vs) ws p q = (p.0, words-append vs ws p.1 q)
 pub above_decimal : (n : ℕ) → n < 2 ^ 64 → AllAbove 47 (decimal n)
 above_decimal n h =
     decimal_by_steps (λ m ds. AllAbove 47 ds) (λ m small. (omega arith, tt))
-      (λ m ds _ front. above-append 47 ds ((48 + m % 10) ∷ []) front (omega arith, tt)) n h
+    (λ m ds _ front. above-append 47 ds ((48 + m % 10) ∷ []) front (omega arith, tt)) n h
 
 above_hex_digit : (d : ℕ) → d < 16 → 47 < hex_digit d
 above_hex_digit d h = grind (arith, nat_tests)

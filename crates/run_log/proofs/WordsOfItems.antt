@@ -1,6 +1,6 @@
 -- The words of an item and of an end have neither spaces nor line feeds.
-use Rattle.std.proofs.Common.{◌≡◌, ℕ, zero, suc, ◌+◌, ◌-◌, ◌^◌, ◌<◌, ◌≤◌, Bool, true, false, List, [], ◌∷◌, ◌++◌, length, take, drop, refl, ap, sym, ◌∙◌, arith}
-use Rattle.std.specs.Prelude.{nat_le, nat_lt, map, codes, if◌then◌else◌, ◌&&◌}
+use Rattle.std.proofs.Common.{◌≡◌, ℕ, zero, suc, ◌^◌, ◌<◌, Bool, true, false, List, [], ◌∷◌, length, take, refl, ap, sym, ◌∙◌, arith}
+use Rattle.std.specs.Prelude.{nat_lt, map, codes, if◌then◌else◌, ◌&&◌}
 use Rattle.std.specs.Fmt.{decimal}
 use Rattle.std.specs.List.{AllByRecursion, list_all}
 use Rattle.std.proofs.lemmas.Bool.{ltb-true}
@@ -29,7 +29,7 @@ use Rattle.flat_model.proofs.NamedChoices.{both_true}
 use Rattle.flat_model.specs.Log.{is_full_reply, is_idle_reply, is_named_choice, is_named_item, is_named_line, is_named_verdict, is_ring_reply, is_size, is_start_reply, is_turn_reply}
 use Rattle.flat_model.specs.Sound.{IsSound}
 use Rattle.flat_model.specs.Step.{home_of}
-use Rattle.flat_model.specs.Text.{box_name, entry_words, flaw_text, hex_word, item_words, kind_text, mode_text, reply_words, thread_text, ticket_text, unit_words, verdict_words}
+use Rattle.flat_model.specs.Text.{box_name, entry_words, flaw_text, hex_word, item_words, kind_text, mode_text, reply_words, thread_text, unit_words, verdict_words}
 use Rattle.run_log.specs.Typed.{Fits8, IsTypedChoice, IsTypedEnd, IsTypedItem, IsTypedLine, IsTypedReply}
 use Rattle.run_log.proofs.ThreadsBack.{box_name_above, thread_above, ticket_above}
 use Rattle.run_log.proofs.WordLemmas.{AllAbove, AreWords, above-lower, above_decimal, above_hex}
@@ -79,17 +79,29 @@ size_small : (n : ℕ) → is_size n ≡ true → n < 2 ^ 64
 size_small n h = grind (arith, nat_tests)
 
 unit_are_words : (cfg : Config) (l : UnitLine) → IsSound cfg → is_named_line cfg l ≡ true → IsTypedLine l → AreWords (unit_words cfg l)
-unit_are_words cfg (line.Switch b) sound named typed =
-    (above_tested 32 (codes "unit") refl, (above_tested 32 (codes "switch") refl,
-      (above-lower 32 46 (box_name cfg b.0) (omega arith) (box_name_above cfg b.0 sound), tt)))
-unit_are_words cfg (line.Rotate slot pair) sound named typed =
-    (above_tested 32 (codes "unit") refl, (above_tested 32 (codes "rotate") refl,
-      (number_word slot (omega (arith, ltb-true slot 8 named)), (hex_is_word pair.rbar, (hex_is_word pair.rasr, tt)))))
+unit_are_words cfg (line.Switch b) sound named typed = (
+  above_tested 32 (codes "unit") refl,
+  (
+    above_tested 32 (codes "switch") refl,
+    (above-lower 32 46 (box_name cfg b.0) (omega arith) (box_name_above cfg b.0 sound), tt),
+  ),
+)
+unit_are_words cfg (line.Rotate slot pair) sound named typed = (
+  above_tested 32 (codes "unit") refl,
+  (
+    above_tested 32 (codes "rotate") refl,
+    (number_word slot (omega (arith, ltb-true slot 8 named)), (hex_is_word pair.rbar, (hex_is_word pair.rasr, tt))),
+  ),
+)
 unit_are_words cfg line.Flush sound named typed = (above_tested 32 (codes "unit") refl, (above_tested 32 (codes "flush") refl, tt))
 unit_are_words cfg (line.Access kind size at verdict) sound named typed =
-    let both = both_true (is_size size) (is_named_verdict verdict) named in
-    (above_tested 32 (codes "unit") refl, (above_tested 32 (codes "access") refl,
-      (kind_word kind, (number_word size (size_small size both.0), (hex_is_word at, verdict_are_words verdict both.1)))))
+    let both = both_true (is_size size) (is_named_verdict verdict) named in (
+      above_tested 32 (codes "unit") refl,
+      (
+        above_tested 32 (codes "access") refl,
+        (kind_word kind, (number_word size (size_small size both.0), (hex_is_word at, verdict_are_words verdict both.1))),
+      ),
+    )
 
 -- a reply whose line is below 64, if it has one
 abbrev HasLine : Reply → Type 0
@@ -142,10 +154,16 @@ entry_are_words cfg (choice.Turn t room) r sound named typed_choice typed =
     (above_tested 32 (codes "turn") refl, (thread_word cfg t sound (small_thread cfg t sound both.0), reply_are_words r (room_line room r both.1) typed))
 entry_are_words cfg (choice.Start t ticket) r sound named typed_choice typed =
     let both = both_true (nat_lt t.0 (length cfg.threads) && nat_lt ticket.thread.0 (length cfg.threads)) (is_start_reply (home_of cfg ticket.thread.0) r) named in
-    let threads = both_true (nat_lt t.0 (length cfg.threads)) (nat_lt ticket.thread.0 (length cfg.threads)) both.0 in
-    (above_tested 32 (codes "start") refl, (thread_word cfg t sound (small_thread cfg t sound threads.0),
-      (ticket_above cfg ticket sound (small_thread cfg ticket.thread sound threads.1) (omega (arith, typed_choice)),
-        reply_are_words r (start_line cfg ticket.thread.0 r both.1) typed)))
+    let threads = both_true (nat_lt t.0 (length cfg.threads)) (nat_lt ticket.thread.0 (length cfg.threads)) both.0 in (
+      above_tested 32 (codes "start") refl,
+      (
+        thread_word cfg t sound (small_thread cfg t sound threads.0),
+        (
+          ticket_above cfg ticket sound (small_thread cfg ticket.thread sound threads.1) (omega (arith, typed_choice)),
+          reply_are_words r (start_line cfg ticket.thread.0 r both.1) typed,
+        ),
+      ),
+    )
 entry_are_words cfg (choice.Idle t) r sound named typed_choice typed =
     let both = both_true (nat_lt t.0 (length cfg.threads)) (is_idle_reply r) named in
     (above_tested 32 (codes "idle") refl, (thread_word cfg t sound (small_thread cfg t sound both.0), reply_are_words r (idle_line r both.1) typed))
@@ -160,7 +178,7 @@ item_are_words cfg (item.Core e) sound named typed = entry_are_words cfg e.choic
 
 -- the words of an end
 pub end_are_words : (cfg : Config) (t : ℕ) (end : End) → IsSound cfg → t < 2 ^ 64 → IsTypedEnd end
-  → AreWords (codes "thread" ∷ thread_text cfg (record { 0 = t }) ∷ mode_text end.mode ∷ decimal end.steps ∷ map hex_word end.regs)
+    → AreWords (codes "thread" ∷ thread_text cfg (record { 0 = t }) ∷ mode_text end.mode ∷ decimal end.steps ∷ map hex_word end.regs)
 end_are_words cfg t end sound small typed =
     (above_tested 32 (codes "thread") refl, (thread_word cfg (record { 0 = t }) sound small, (mode_word end.mode, (number_word end.steps (omega (arith, typed.steps)), hex_words end.regs))))
 

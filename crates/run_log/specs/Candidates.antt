@@ -191,5 +191,5 @@ end_of words = record {
   mode = mode_of (word_at words 2);
   steps = number_of 10 (word_at words 3);
   regs = number_of 16 (word_at words 4) ∷ number_of 16 (word_at words 5) ∷ number_of 16 (word_at words 6) ∷ number_of 16 (word_at words 7)
-    ∷ number_of 16 (word_at words 8) ∷ number_of 16 (word_at words 9) ∷ number_of 16 (word_at words 10) ∷ number_of 16 (word_at words 11) ∷ [];
+      ∷ number_of 16 (word_at words 8) ∷ number_of 16 (word_at words 9) ∷ number_of 16 (word_at words 10) ∷ number_of 16 (word_at words 11) ∷ [];
 }

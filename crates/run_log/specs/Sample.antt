@@ -24,7 +24,7 @@ sample_config = record {
     threads = 1;
     server = record { 0 = 0 };
     items = record { range = record { base = 0; len = 0x100000 }; rights = read_execute }
-      ∷ record { range = record { base = 0x20000000; len = 0x100 }; rights = read_write } ∷ [];
+        ∷ record { range = record { base = 0x20000000; len = 0x100 }; rights = read_write } ∷ [];
     grants = [];
     irqs = [];
   } ∷ [];

@@ -7,8 +7,8 @@ ghost use Rattle.run_log.specs.Candidates.{box_of, digit_of, done_of, end_of, fl
 
 use crate::items::{first_thread, home_of};
 use flat_model::{
-    BoxId, Choice, Config, End, Entry, Flaw, Frames, Kind, Line, Logged, Mode, Pair, Reply, Started,
-    ThreadId, Ticket, UnitLine, Verdict,
+    BoxId, Choice, Config, End, Entry, Flaw, Frames, Kind, Line, Logged, Mode, Pair, Reply,
+    Started, ThreadId, Ticket, UnitLine, Verdict,
 };
 
 #[tactic(auto, unfolding(crate::specs::Candidates::is_space))]

@@ -11,5 +11,4 @@ pub fn a_text_has_one_log()
     ensures { (config : Config) (log other : Log) → IsSound config
         → IsNamed config log → IsTyped log → IsNamed config other → IsTyped other
         → text_of config log ≡ text_of config other → log ≡ other }
-{
-}
+{}

@@ -4,7 +4,9 @@ ghost use Rattle.flat_model.specs.Log.{ascends, is_box, is_full_reply, is_idle_r
 ghost use Rattle.flat_model.specs.Want.{is_thread};
 
 use crate::items::home_of;
-use flat_model::{BoxId, Choice, Config, Entry, Frames, Logged, Reply, ThreadId, UnitLine, Verdict};
+use flat_model::{
+    BoxId, Choice, Config, Entry, Frames, Logged, Reply, ThreadId, UnitLine, Verdict,
+};
 
 // How many regions the unit has.
 const REGIONS: u8 = 8;

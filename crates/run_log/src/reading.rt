@@ -56,13 +56,7 @@ fn next_item<'a>(config: &Config, bytes: &'a [u8], page: &mut Page) -> Option<(L
 }
 
 // Whether the line is that of the end of the thread.
-fn is_line_of_end(
-    config: &Config,
-    t: ThreadId,
-    end: &End,
-    line: &[u8],
-    page: &mut Page,
-) -> bool
+fn is_line_of_end(config: &Config, t: ThreadId, end: &End, line: &[u8], page: &mut Page) -> bool
     requires { IsSound config.now }
     ensures { IsTrue result ↔ (end_line config.now t.0 end.now ≡ line.now ++ 10 ∷ []) }
 {

@@ -151,7 +151,11 @@ fn the_first_run_is_read_and_written_back(rt: HostRuntime) -> Result<(), Fail> {
     };
     assert_eq!(rt; log.items.as_slice(), items.as_slice());
     assert_eq!(rt; log.ends.as_slice(), [end].as_slice());
-    let mut sink = MemSink::new(Vec::with_capacity(rt.alloc(), 1000)?, 1000, Vec::new(rt.alloc()));
+    let mut sink = MemSink::new(
+        Vec::with_capacity(rt.alloc(), 1000)?,
+        1000,
+        Vec::new(rt.alloc()),
+    );
     assert!(rt; write_log(&config, &log, &mut sink).is_ok());
     assert_eq!(rt; sink.bytes(), bytes.as_slice());
     assert_eq!(rt; sink.calls(), 1);
@@ -166,7 +170,11 @@ fn a_text_that_is_cut_is_refused_where_it_ends(rt: HostRuntime) -> Result<(), Fa
     let mut line = 1;
     for (n, byte) in bytes.iter().enumerate() {
         let read = read_log(rt.alloc(), &config, &bytes[..n]);
-        assert_eq!(rt; read.err(), Some(LogErr::BadText { line }), "after {n} bytes");
+        assert_eq!(rt;
+            read.err(),
+            Some(LogErr::BadText { line }),
+            "after {n} bytes"
+        );
         if *byte == b'\n' {
             line = line.saturating_add(1);
         }
@@ -236,8 +244,11 @@ fn every_line_is_read_and_written_back(rt: HostRuntime) -> Result<(), Fail> {
         let bytes = text(rt.alloc(), 3, good)?;
         assert!(rt; bytes.len() < 1000);
         let log = read_log(rt.alloc(), &config, &bytes)?;
-        let mut sink =
-            MemSink::new(Vec::with_capacity(rt.alloc(), 1000)?, 1000, Vec::new(rt.alloc()));
+        let mut sink = MemSink::new(
+            Vec::with_capacity(rt.alloc(), 1000)?,
+            1000,
+            Vec::new(rt.alloc()),
+        );
         assert!(rt; write_log(&config, &log, &mut sink).is_ok(), "{good}");
         assert_eq!(rt; sink.bytes(), bytes.as_slice(), "{good}");
     }
@@ -252,7 +263,10 @@ fn a_sink_that_fails_keeps_a_prefix(rt: HostRuntime) -> Result<(), Fail> {
     let log = read_log(rt.alloc(), &config, &bytes)?;
     let fail_at = vec![in rt.alloc(); 2]?;
     let mut sink = MemSink::new(Vec::with_capacity(rt.alloc(), 1000)?, 16, fail_at);
-    assert_eq!(rt; write_log(&config, &log, &mut sink).err(), Some(WriteErr::Fault));
+    assert_eq!(rt;
+        write_log(&config, &log, &mut sink).err(),
+        Some(WriteErr::Fault)
+    );
     assert_eq!(rt; sink.bytes(), b"unit switch a\ntu".as_slice());
     Ok(())
 }

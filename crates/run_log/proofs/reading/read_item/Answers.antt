@@ -1,4 +1,3 @@
-use Rattle.std.proofs.Common.{sym, ◌∙◌}
 use Rattle.run_log.proofs.ReadingLemmas.{item_found, item_other, item_unnamed}
 use Rattle.run_log.proofs.reading.read_item.Goals as goal
 
@@ -9,7 +8,7 @@ returns-then-not-is_named_item-clause-none c = λ _.
 pub returns-then-not-is_line_of_item-clause-none : goal.returns-then-not-is_line_of_item-clause-none
 returns-then-not-is_line_of_item-clause-none c = λ _.
     item_other c.args.config.now c.args.line.now c.item_of-item.result c.requires c.item_of-item.ensures
-      (λ is. let yes = c.is_line_of_item.ensures.1 is in absurd (cc))
+    (λ is. let yes = c.is_line_of_item.ensures.1 is in absurd (cc))
 
 pub returns-clause-found : goal.returns-clause-found
 returns-clause-found c =

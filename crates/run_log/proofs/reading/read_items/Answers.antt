@@ -8,4 +8,4 @@ items-smaller c =
 pub items-preserved : goal.items-preserved
 items-preserved c =
     rw c.in_ok-push.ensures.ok (items_more c.args.config.now c.args.bytes.now c.items.items.items c.items.rest.now c.in-Some.item c.in-Some.after.now c.items.invariant
-      (rw (c.in-Some.item-is, c.in-Some.after-is) c.in-Some.ensures.found))
+    (rw (c.in-Some.item-is, c.in-Some.after-is) c.in-Some.ensures.found))

@@ -14,7 +14,7 @@ items-preserved g c = record {
       (at_drop_more (flat_map (item_line c.args.config.now)) c.args.items.now c.items.item-index _ c.items-test.true)
       c.items.invariant.so_far c.in_ok-make_room.ensures.ok c.push_item.ensures.text;
   typed = each_more IsTypedItem c.args.items.now c.items.item-index _ c.items-test.true c.items.invariant.typed
-    (c.push_item.ensures.typed (all_at (is_named_item c.args.config.now) c.args.items.now c.items.item-index _ c.requires.named c.items-test.true));
+      (c.push_item.ensures.typed (all_at (is_named_item c.args.config.now) c.args.items.now c.items.item-index _ c.requires.named c.items-test.true));
   later = omega arith;
 }
 
