@@ -18,7 +18,8 @@ short_from true true c n e h = leb-true n 15 e
 short_from true false c n e h = cc
 short_from false b c n e h = cc
 
-name_short : (name : List ℕ) → is_name name ≡ true → length name ≤ 16
+-- a name has at most 16 bytes
+pub name_short : (name : List ℕ) → is_name name ≡ true → length name ≤ 16
 name_short [] h = omega arith
 name_short (byte ∷ bytes) h =
     let few : length bytes ≤ 15 = short_from (is_lower byte) (nat_le (length bytes) 15) (list_all is_name_byte bytes) (length bytes) refl h in
