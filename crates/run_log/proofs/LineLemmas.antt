@@ -17,7 +17,8 @@ use Rattle.flat_model.specs.declared.parts.Config.{Config}
 use Rattle.flat_model.specs.Log.{is_named_item}
 use Rattle.flat_model.specs.Sound.{IsSound}
 use Rattle.flat_model.specs.Text.{end_line, entry_words, hex_word, item_line, item_words, mode_text, thread_text, unit_words}
-use Rattle.run_log.specs.Candidates.{end_of, item_of, word_at, words_of}
+use Rattle.run_log.specs.Candidates.{end_of, item_of}
+use Rattle.run_log.specs.LineWords.{word_at, words_of}
 use Rattle.run_log.specs.Lines.{HasNoLine}
 use Rattle.run_log.specs.Spaced.{spaced}
 use Rattle.run_log.specs.Stops.{HasNoEnd, HasNoItem, IsEndAt, IsEndOf, IsItemAt, IsItemOf, IsNoEnd, IsNoItem}

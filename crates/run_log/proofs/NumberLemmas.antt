@@ -7,7 +7,7 @@ use Rattle.std.proofs.lemmas.Fmt.{decimal_by_steps}
 use Rattle.std.proofs.lemmas.List.{at_drop_more}
 use Rattle.std.proofs.Math.Nat.{mul-le-mul_left, pow-suc}
 use Rattle.flat_model.specs.Text.{hex_digit, hex_digits, hex_word}
-use Rattle.run_log.specs.Candidates.{digit_of, number_after, number_of, small_of}
+use Rattle.run_log.specs.LineWords.{digit_of, number_after, number_of, small_of}
 
 one_more : (radix n digit : ℕ) → 1 ≤ radix → n ≤ n * radix + digit
 one_more radix n digit h = let p : n * 1 ≤ n * radix = mul-le-mul_left n h in omega arith

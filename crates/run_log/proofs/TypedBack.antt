@@ -7,7 +7,8 @@ use Rattle.flat_model.specs.declared.events.Reply.TheVariants as reply
 use Rattle.flat_model.specs.declared.events.UnitLine.TheVariants as line
 use Rattle.flat_model.specs.declared.parts.Config.{Config}
 use Rattle.addr_base.specs.declared.identity.Ticket.{Ticket}
-use Rattle.run_log.specs.Candidates.{box_of, done_of, end_of, flaw_of, frames_of, idle_of, item_of, kind_of, number_of, reply_of, ring_of, small_of, smalls_at, start_of, start_reply_of, started_of, ticket_of, turn_of, unit_of, verdict_of, word_at}
+use Rattle.run_log.specs.Candidates.{box_of, done_of, end_of, flaw_of, frames_of, idle_of, item_of, kind_of, reply_of, ring_of, smalls_at, start_of, start_reply_of, started_of, ticket_of, turn_of, unit_of, verdict_of}
+use Rattle.run_log.specs.LineWords.{number_of, small_of, word_at}
 use Rattle.run_log.specs.Typed.{Fits8, Fits32, IsTypedEnd, IsTypedFrames, IsTypedItem, IsTypedLine, IsTypedReply, IsTypedStarted}
 
 -- a fact of a value, kept with the value

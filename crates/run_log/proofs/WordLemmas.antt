@@ -7,7 +7,7 @@ use Rattle.std.proofs.lemmas.Bool.Decides.{nat_tests}
 use Rattle.std.proofs.lemmas.Fmt.{decimal_by_steps}
 use Rattle.std.proofs.lemmas.List.{drop_at, take_at}
 use Rattle.flat_model.specs.Text.{hex_digit, hex_digits, hex_word}
-use Rattle.run_log.specs.Candidates.{is_dot, is_hash, is_space, words_of}
+use Rattle.run_log.specs.LineWords.{is_dot, is_hash, is_space, words_of}
 
 -- each byte is above a number
 abbrev pub AllAbove : ℕ → List ℕ → Type 0
