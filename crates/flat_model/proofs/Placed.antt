@@ -183,10 +183,10 @@ module _ (cfg : Config) (sound_cfg : sound.IsSound cfg) (b : ℕ) (part : BoxPar
 
   pub grant_ends : (g : Item) → sound.IsGrant cfg.board (common_range cfg.board cfg.boxes) g → end_of g.range ≤ ADDRESS_END
   grant_ends g it =
-    elim it.placed [
-      inl inside ↦ omega (arith, inside.1, sound_cfg.board.peripherals_bank.ends)
-    | inr inside ↦ omega (arith, inside.1, common_end, limit.ends, sound_cfg.board.sram_bank.ends)
-    ]
+      elim it.placed [
+        | inl inside ↦ omega (arith, inside.1, sound_cfg.board.peripherals_bank.ends)
+        | inr inside ↦ omega (arith, inside.1, common_end, limit.ends, sound_cfg.board.sram_bank.ends)
+      ]
 
   grant_end : (g : Item) → sound.IsGrant cfg.board (common_range cfg.board cfg.boxes) g → end_of g.range < 2 ^ 32
   grant_end g it = omega (arith, grant_ends g it)

@@ -32,7 +32,7 @@ module _ (cfg : Config) (owners : List (Option BoxId)) (b : ℕ) (part : BoxPart
   -- an address of the heap is in no other piece
   only_pages : (a : ℕ) (kind : Kind) → in_heap_range cfg.board.heap a ≡ true → held_by (pieces_of cfg.board part owners b) a kind ≡ true → gives_pages kind ≡ true
   only_pages a kind heap held = elim (cases_Bool (in_own_pages cfg.board.heap owners b a)) [
-      inl own ↦ sym (held_by-at (pieces_of cfg.board part owners b) a kind 2 (page_piece cfg.board.heap owners b) (ArePiecesApart-pieces_of cfg.board part owners b placed) refl own) ∙ held
+    | inl own ↦ sym (held_by-at (pieces_of cfg.board part owners b) a kind 2 (page_piece cfg.board.heap owners b) (ArePiecesApart-pieces_of cfg.board part owners b placed) refl own) ∙ held
     | inr off ↦
         let flash : in_range cfg.board.flash a ≡ false = false_from_ne_true (in_range cfg.board.flash a) (λ is. false≢true (sym (placed.flash_heap a is) ∙ heap)) in
         let own : in_range part.own a ≡ false = false_from_ne_true (in_range part.own a) (λ is. false≢true (sym (placed.own_heap a is) ∙ heap)) in
@@ -41,26 +41,26 @@ module _ (cfg : Config) (owners : List (Option BoxId)) (b : ℕ) (part : BoxPart
 
   pub IsHeapApart-placed : IsHeapApart (held_by (pieces_of cfg.board part owners b)) (in_heap_range cfg.board.heap) (flash_pair cfg.board) (own_pair part)
   IsHeapApart-placed = record {
-      flash_off = λ a heap. matches-flash cfg.board part owners b placed a ∙ false_from_ne_true (in_range cfg.board.flash a) (λ is. false≢true (sym (placed.flash_heap a is) ∙ heap));
-      own_off = λ a heap. matches-own cfg.board part owners b placed a ∙ false_from_ne_true (in_range part.own a) (λ is. false≢true (sym (placed.own_heap a is) ∙ heap));
-      no_fetch = only_pages;
+    flash_off = λ a heap. matches-flash cfg.board part owners b placed a ∙ false_from_ne_true (in_range cfg.board.flash a) (λ is. false≢true (sym (placed.flash_heap a is) ∙ heap));
+    own_off = λ a heap. matches-own cfg.board part owners b placed a ∙ false_from_ne_true (in_range part.own a) (λ is. false≢true (sym (placed.own_heap a is) ∙ heap));
+    no_fetch = only_pages;
   }
 
   loose_pages : (others : List (Option BoxId)) (p : Pair) → Contains (page_pairs cfg.board.heap others b) p → IsLoose (held_by (pieces_of cfg.board part owners b)) (in_heap_range cfg.board.heap) p
   loose_pages others p is = from_heap cfg.board.heap placed.heap is
-   where
-    from_heap : (heap : Option HeapPart) → IfSome heap IsGrouped → Contains (page_pairs heap others b) p → IsLoose (held_by (pieces_of cfg.board part owners b)) (in_heap_range heap) p
-    from_heap None it is = absurd (omega (arith, is.1))
-    from_heap (Some h) it is =
-        let of = All-contains (OfPages h others b) (page_pairs (Some h) others b) p (All-from_recursion (OfPages h others b) (page_pairs (Some h) others b) (each-page_pairs h others b it)) is in
-        λ a found. inr ((and_parts (in_all_pages h a) (owns others b ((a - h.base) / h.page)) (of.inside a found)).0, of.given)
+    where
+      from_heap : (heap : Option HeapPart) → IfSome heap IsGrouped → Contains (page_pairs heap others b) p → IsLoose (held_by (pieces_of cfg.board part owners b)) (in_heap_range heap) p
+      from_heap None it is = absurd (omega (arith, is.1))
+      from_heap (Some h) it is =
+          let of = All-contains (OfPages h others b) (page_pairs (Some h) others b) p (All-from_recursion (OfPages h others b) (page_pairs (Some h) others b) (each-page_pairs h others b it)) is in
+          λ a found. inr ((and_parts (in_all_pages h a) (owns others b ((a - h.base) / h.page)) (of.inside a found)).0, of.given)
 
   -- a pair of the plan, whoever owned the pages then
   pub IsLoose-planned : (p : Pair) → IsPlanned cfg b part p → IsLoose (held_by (pieces_of cfg.board part owners b)) (in_heap_range cfg.board.heap) p
   IsLoose-planned p planned = elim (Contains-append_cases (grant_pairs part.grants) (page_pairs cfg.board.heap planned.0 b) p planned.1) [
-      inl grant ↦ IsLoose-from_honest (held_by (pieces_of cfg.board part owners b)) (in_heap_range cfg.board.heap) p
-          (All-contains (IsHonest (held_by (pieces_of cfg.board part owners b))) (grant_pairs part.grants) p
-              (All-from_recursion (IsHonest (held_by (pieces_of cfg.board part owners b))) (grant_pairs part.grants) (each_grant_pair cfg.board part owners b placed)) grant)
+    | inl grant ↦ IsLoose-from_honest (held_by (pieces_of cfg.board part owners b)) (in_heap_range cfg.board.heap) p
+        (All-contains (IsHonest (held_by (pieces_of cfg.board part owners b))) (grant_pairs part.grants) p
+        (All-from_recursion (IsHonest (held_by (pieces_of cfg.board part owners b))) (grant_pairs part.grants) (each_grant_pair cfg.board part owners b placed)) grant)
     | inr page ↦ loose_pages planned.0 p page
   ]
 
@@ -72,12 +72,12 @@ module _ (cfg : Config) (owners : List (Option BoxId)) (b : ℕ) (part : BoxPart
     pub is_some-recovered : is_some (first_serving a kind (plan_of cfg owners b part)) ≡ may_access cfg owners b a 1 kind
     is_some-recovered =
         recovers (held_by (pieces_of cfg.board part owners b)) (in_heap_range cfg.board.heap) REGIONS (flash_pair cfg.board) (own_pair part) (overlay_pair cfg.board part) (plan_of cfg owners b part)
-            (omega arith) (IsSuited-placed cfg.board part owners b placed) IsHeapApart-placed pairs a kind loose denied
+        (omega arith) (IsSuited-placed cfg.board part owners b placed) IsHeapApart-placed pairs a kind loose denied
         ∙ sym (may_access-held cfg owners b a 1 kind part found placed all (inl refl) (omega arith))
 
     -- With that pair in the circle the unit grants exactly what the box holds.
     pub is_granted-recovered : (c : ℕ) → OnCircle REGIONS c → is_granted (decision (touched_pairs (plan_of cfg owners b part) pairs c a kind) a kind) ≡ may_access cfg owners b a 1 kind
     is_granted-recovered c on =
         granted-recovered (held_by (pieces_of cfg.board part owners b)) (in_heap_range cfg.board.heap) REGIONS (flash_pair cfg.board) (own_pair part) (overlay_pair cfg.board part) (plan_of cfg owners b part)
-            (omega arith) (IsSuited-placed cfg.board part owners b placed) IsHeapApart-placed pairs a kind c loose on denied
+        (omega arith) (IsSuited-placed cfg.board part owners b placed) IsHeapApart-placed pairs a kind c loose on denied
         ∙ sym (may_access-held cfg owners b a 1 kind part found placed all (inl refl) (omega arith))
