@@ -1,6 +1,6 @@
 -- Where the reading of a text stops is the first line after which no text can go on.
-use Rattle.std.proofs.Common.{◌≡◌, ◌≢◌, ℕ, zero, suc, ◌+◌, ◌-◌, ◌*◌, ◌^◌, ◌<◌, ◌≤◌, Bool, true, false, cond, List, [], ◌∷◌, ◌++◌, length, replicate, refl, ap, sym, ◌∙◌, arith, append_assoc, length-append}
-use Rattle.std.specs.Prelude.{nat_eq, if◌then◌else◌}
+use Rattle.std.proofs.Common.{◌≡◌, ◌≢◌, ℕ, zero, suc, ◌+◌, ◌-◌, ◌^◌, ◌<◌, ◌≤◌, Bool, true, false, cond, List, [], ◌∷◌, ◌++◌, length, replicate, refl, ap, sym, ◌∙◌, arith, append_assoc, length-append}
+use Rattle.std.specs.Prelude.{nat_eq}
 use Rattle.std.specs.List.{AllByRecursion, flat_map, list_all}
 use Rattle.std.proofs.lemmas.Bool.{eqb-false, eqb-true, ne_eqb}
 use Rattle.std.proofs.lemmas.List.{append-nil, length-replicate}
@@ -10,16 +10,15 @@ use Rattle.flat_model.proofs.NamedChoices.{both_true}
 use Rattle.flat_model.specs.declared.events.Logged.{Logged}
 use Rattle.flat_model.specs.declared.events.Mode.TheVariants as mode
 use Rattle.flat_model.specs.declared.logs.End.{End}
-use Rattle.flat_model.specs.declared.logs.Log.{Log}
 use Rattle.flat_model.specs.declared.parts.Config.{Config}
 use Rattle.flat_model.specs.Log.{is_named_item}
 use Rattle.flat_model.specs.Sound.{IsSound}
 use Rattle.flat_model.specs.Text.{end_line, end_lines, item_line}
-use Rattle.run_log.specs.Reading.{Begins, IsFirstBadLine, IsLogOf, first_lines, line_count}
-use Rattle.run_log.specs.Stops.{AreItemsOf, HasNoEnd, HasNoItem, StopsInEnds}
-use Rattle.run_log.specs.Typed.{AreWords, IsTypedEnd, IsTypedItem}
+use Rattle.run_log.specs.Reading.{Begins, IsFirstBadLine, first_lines, line_count}
+use Rattle.run_log.specs.Stops.{AreItemsOf, HasNoItem, StopsInEnds}
+use Rattle.run_log.specs.Typed.{IsTypedEnd, IsTypedItem}
 use Rattle.run_log.proofs.LineLemmas.{Feedless, end_body, end_feedless, end_line_is, item_body, item_feedless, item_line_is, item_not_end, other_rest, other_rest_end}
-use Rattle.run_log.proofs.StopLemmas.{Stuck, no_item_in_ends, none_of, so_far}
+use Rattle.run_log.proofs.StopLemmas.{Stuck, none_of, so_far}
 
 not_feed : (b : ℕ) → b ≢ 10 → nat_eq b 10 ≡ false
 not_feed b h = ne_eqb b 10 h

@@ -1,12 +1,11 @@
 -- What is printed of an item or an end reads as that item or end.
-use Rattle.std.proofs.Common.{◌≡◌, ℕ, zero, suc, ◌+◌, ◌-◌, ◌^◌, ◌<◌, ◌≤◌, Bool, true, false, not, min, List, [], ◌∷◌, ◌++◌, length, take, drop, refl, ap, sym, ◌∙◌, arith}
+use Rattle.std.proofs.Common.{◌≡◌, ℕ, zero, suc, ◌-◌, ◌<◌, ◌≤◌, Bool, true, false, not, min, List, [], ◌∷◌, length, take, drop, refl, ap, sym, ◌∙◌, arith}
 use Rattle.std.specs.Prelude.{nat_eq, nat_le, nat_lt, map, codes, if◌then◌else◌, ◌&&◌}
 use Rattle.std.specs.Fmt.{decimal}
 use Rattle.std.specs.List.{AllByRecursion, list_all}
 use Rattle.std.specs.Str.{bytes_eq}
 use Rattle.std.proofs.lemmas.Bool.{eqb-true, leb-true, ltb-true}
 use Rattle.std.proofs.lemmas.Bool.Decides.{nat_tests}
-use Rattle.addr_base.specs.declared.identity.BoxId.{BoxId}
 use Rattle.addr_base.specs.declared.identity.Ticket.{Ticket}
 use Rattle.addr_base.specs.declared.pairs.Verdict.{Verdict}
 use Rattle.addr_base.specs.declared.pairs.Verdict.TheVariants.{Granted, Denied}
@@ -33,7 +32,8 @@ use Rattle.flat_model.specs.Log.{ascends, is_full_reply, is_idle_reply, is_named
 use Rattle.flat_model.specs.Sound.{IsSound}
 use Rattle.flat_model.specs.Step.{home_of}
 use Rattle.flat_model.specs.Text.{entry_words, flaw_text, hex_word, item_words, kind_text, mode_text, reply_words, thread_text, ticket_text, unit_words, verdict_words}
-use Rattle.run_log.specs.Candidates.{done_of, end_of, flaw_of, frames_of, had_room, idle_of, item_of, kind_of, mode_of, number_of, reply_of, ring_of, small_of, smalls_at, start_of, start_reply_of, started_of, ticket_of, turn_of, unit_of, verdict_of, word_at}
+use Rattle.run_log.specs.Candidates.{done_of, end_of, flaw_of, frames_of, had_room, idle_of, item_of, kind_of, mode_of, reply_of, ring_of, smalls_at, start_of, start_reply_of, started_of, ticket_of, turn_of, unit_of, verdict_of}
+use Rattle.run_log.specs.LineWords.{number_of, small_of, word_at}
 use Rattle.run_log.specs.Typed.{Fits8, Fits32, IsTypedChoice, IsTypedEnd, IsTypedFrames, IsTypedItem, IsTypedLine, IsTypedReply, IsTypedStarted}
 use Rattle.run_log.proofs.NumberLemmas.{number_of_decimal, number_of_hex, small_of_decimal}
 use Rattle.run_log.proofs.ThreadsBack.{box_of_name, thread_of_text, ticket_of_text}

@@ -1,8 +1,8 @@
 -- The first line of some bytes is one item's line or one end's line at most.
-use Rattle.std.proofs.Common.{◌≡◌, ◌≢◌, ℕ, zero, suc, ◌+◌, ◌^◌, ◌<◌, ◌≤◌, Bool, true, false, List, [], ◌∷◌, ◌++◌, length, get_or, lit≤, refl, ap, sym, ◌∙◌, arith, append_assoc, length-append}
+use Rattle.std.proofs.Common.{◌≡◌, ◌≢◌, ℕ, suc, ◌^◌, ◌<◌, ◌≤◌, true, false, List, [], ◌∷◌, ◌++◌, length, get_or, lit≤, refl, ap, sym, ◌∙◌, arith, append_assoc, length-append}
 use Rattle.std.specs.Prelude.{codes, map}
 use Rattle.std.specs.Fmt.{decimal}
-use Rattle.std.specs.List.{join_with_byte, list_all}
+use Rattle.std.specs.List.{join_with_byte}
 use Rattle.std.specs.Str.{bytes_eq}
 use Rattle.std.proofs.lemmas.List.{append_cancel_right}
 use Rattle.flat_model.specs.declared.events.Choice.{Choice}
@@ -17,8 +17,9 @@ use Rattle.flat_model.specs.declared.parts.Config.{Config}
 use Rattle.flat_model.specs.Log.{is_named_item}
 use Rattle.flat_model.specs.Sound.{IsSound}
 use Rattle.flat_model.specs.Text.{end_line, entry_words, hex_word, item_line, item_words, mode_text, thread_text, unit_words}
-use Rattle.run_log.specs.Candidates.{end_of, item_of, word_at, words_of}
-use Rattle.run_log.specs.Lines.{HasNoLine, IsParted}
+use Rattle.run_log.specs.Candidates.{end_of, item_of}
+use Rattle.run_log.specs.LineWords.{word_at, words_of}
+use Rattle.run_log.specs.Lines.{HasNoLine}
 use Rattle.run_log.specs.Spaced.{spaced}
 use Rattle.run_log.specs.Stops.{HasNoEnd, HasNoItem, IsEndAt, IsEndOf, IsItemAt, IsItemOf, IsNoEnd, IsNoItem}
 use Rattle.run_log.specs.Typed.{IsTypedEnd, IsTypedItem}

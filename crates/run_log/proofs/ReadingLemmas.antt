@@ -1,5 +1,5 @@
 -- What the reading of one line answers.
-use Rattle.std.proofs.Common.{◌≡◌, ℕ, ◌^◌, ◌<◌, Bool, true, false, List, [], ◌∷◌, ◌++◌, refl, ap, sym, ◌∙◌, arith, append_assoc}
+use Rattle.std.proofs.Common.{◌≡◌, ℕ, ◌^◌, ◌<◌, Bool, true, false, List, [], ◌∷◌, ◌++◌, ap, sym, ◌∙◌, append_assoc}
 use Rattle.std.specs.Cmp.Lexicographic.{pointwise}
 use Rattle.std.specs.Prelude.{nat_eq}
 use Rattle.std.proofs.lemmas.Bool.Decides.{Decides-eqb}
@@ -11,7 +11,8 @@ use Rattle.flat_model.specs.declared.parts.Config.{Config}
 use Rattle.flat_model.specs.Log.{is_named_item}
 use Rattle.flat_model.specs.Sound.{IsSound}
 use Rattle.flat_model.specs.Text.{end_line, item_line}
-use Rattle.run_log.specs.Candidates.{end_of, item_of, words_of}
+use Rattle.run_log.specs.Candidates.{end_of, item_of}
+use Rattle.run_log.specs.LineWords.{words_of}
 use Rattle.run_log.specs.Lines.{HasNoLine, IsParted}
 use Rattle.run_log.specs.Stops.{HasNoEnd, HasNoItem, IsEndAt, IsEndOf, IsItemAt, IsItemOf, IsNoEnd, IsNoItem}
 use Rattle.run_log.proofs.LineLemmas.{end_of_line, has_no_end, has_no_item, item_of_line, no_end_feedless, no_item_feedless, no_line_feedless}

@@ -1,7 +1,6 @@
 -- The configuration of the tests is sound.
-use Rattle.std.proofs.Common.{◌≡◌, ℕ, ◌+◌, ◌<◌, ◌≤◌, Bool, true, false, refl, arith}
-use Rattle.std.specs.Prelude.{nat_le, nat_lt, ◌&&◌}
-use Rattle.std.proofs.lemmas.Bool.{false_from_ne_true, and_parts, leb-true, ltb-true}
+use Rattle.std.proofs.Common.{◌≤◌, refl, arith}
+use Rattle.std.proofs.lemmas.Bool.{false_from_ne_true}
 use Rattle.addr_base.specs.declared.ranges.Range.{Range}
 use Rattle.addr_base.specs.Range.{end_of, in_range}
 use Rattle.flat_model.specs.Sound.{AreApart, IsSound}

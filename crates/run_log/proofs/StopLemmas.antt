@@ -1,24 +1,19 @@
 -- Two named logs with the same text are one, and where the reading of a text stops no text goes on.
-use Rattle.std.proofs.Common.{◌≡◌, ◌≢◌, ℕ, zero, suc, ◌+◌, ◌-◌, ◌*◌, ◌^◌, ◌<◌, ◌≤◌, Bool, true, false, List, [], ◌∷◌, ◌++◌, length, replicate, refl, ap, sym, ◌∙◌, arith, inl, inr, append_assoc, length-append}
-use Rattle.std.specs.Prelude.{nat_eq, ◌&&◌, count_by}
+use Rattle.std.proofs.Common.{◌≡◌, ◌≢◌, ℕ, suc, ◌+◌, ◌^◌, ◌<◌, ◌≤◌, true, List, [], ◌∷◌, ◌++◌, length, refl, ap, sym, ◌∙◌, arith, append_assoc, length-append}
 use Rattle.std.specs.List.{AllByRecursion, flat_map, list_all}
-use Rattle.std.proofs.lemmas.Bool.{eqb-false, eqb-true, ne_eqb}
-use Rattle.std.proofs.lemmas.List.{append-nil, length-replicate}
-use Rattle.std.proofs.lemmas.List.Sums.{sum_by-cons}
-use Rattle.flat_model.proofs.Elements.{each-append}
+use Rattle.std.proofs.lemmas.List.{append-nil}
 use Rattle.flat_model.proofs.NamedChoices.{both_true}
 use Rattle.flat_model.specs.declared.events.Logged.{Logged}
-use Rattle.flat_model.specs.declared.events.Mode.TheVariants as mode
 use Rattle.flat_model.specs.declared.logs.End.{End}
 use Rattle.flat_model.specs.declared.logs.Log.{Log}
 use Rattle.flat_model.specs.declared.parts.Config.{Config}
 use Rattle.flat_model.specs.Log.{IsNamed, is_named_item}
 use Rattle.flat_model.specs.Sound.{IsSound}
 use Rattle.flat_model.specs.Text.{end_line, end_lines, item_line, text_of}
-use Rattle.run_log.specs.Reading.{Begins, IsFirstBadLine, IsLogOf, first_lines, line_count}
-use Rattle.run_log.specs.Stops.{AreEndsOf, AreItemsOf, HasNoEnd, HasNoItem, IsEndAt, IsItemAt, StopsInEnds}
-use Rattle.run_log.specs.Typed.{AreWords, IsTyped, IsTypedEnd, IsTypedItem}
-use Rattle.run_log.proofs.LineLemmas.{Feedless, end_not_nil, end_unique, item_not_end, item_not_nil, item_unique, other_rest, other_rest_end}
+use Rattle.run_log.specs.Reading.{IsLogOf}
+use Rattle.run_log.specs.Stops.{HasNoEnd, HasNoItem}
+use Rattle.run_log.specs.Typed.{IsTyped, IsTypedEnd, IsTypedItem}
+use Rattle.run_log.proofs.LineLemmas.{end_not_nil, end_unique, item_not_end, item_not_nil, item_unique}
 
 -- a text of ends begins with no item's line
 pub no_item_in_ends : (cfg : Config) (t : ℕ) (ends : List End) (rest : List ℕ) → IsSound cfg → t < 2 ^ 64 → AllByRecursion IsTypedEnd ends → HasNoItem cfg rest

@@ -1,8 +1,8 @@
 -- What is printed of a box, a thread and a ticket reads as that box, thread and ticket.
-use Rattle.std.proofs.Common.{◌≡◌, ℕ, zero, suc, ◌+◌, ◌-◌, ◌^◌, ◌<◌, ◌≤◌, Bool, true, false, not, nat_lt, min, List, [], ◌∷◌, ◌++◌, length, replicate, Option, Some, None, refl, ap, sym, ◌∙◌, arith, inl, inr, ◌⊎◌, append_assoc, zero-add}
-use Rattle.std.specs.Prelude.{nat_eq, nat_le, slice_get, ◌&&◌, ◌||◌, map, codes}
+use Rattle.std.proofs.Common.{◌≡◌, ℕ, zero, suc, ◌+◌, ◌-◌, ◌^◌, ◌<◌, ◌≤◌, Bool, true, false, min, List, [], ◌∷◌, ◌++◌, length, replicate, Some, refl, ap, sym, ◌∙◌, arith, inl, inr, ◌⊎◌, append_assoc, zero-add}
+use Rattle.std.specs.Prelude.{nat_eq, nat_le, slice_get, ◌&&◌, ◌||◌, map}
 use Rattle.std.specs.Fmt.{decimal}
-use Rattle.std.specs.List.{AllByRecursion, list_all, list_any, position_or_len, prefix_len, before_first, after_first}
+use Rattle.std.specs.List.{AllByRecursion, list_all, list_any, position_or_len}
 use Rattle.std.specs.Option.{option_map, option_map_or}
 use Rattle.std.specs.Str.{bytes_eq}
 use Rattle.std.proofs.lemmas.Bool.{eq-eqb}
@@ -23,7 +23,8 @@ use Rattle.flat_model.specs.Placing.{common_range}
 use Rattle.flat_model.specs.Sound.{AreNumbered, homes_from, IsBox, IsSound}
 use Rattle.flat_model.specs.Step.{home_of}
 use Rattle.flat_model.specs.Text.{box_name, first_thread, thread_text, ticket_text}
-use Rattle.run_log.specs.Candidates.{box_of, is_dot, is_hash, number_of, thread_of, ticket_of}
+use Rattle.run_log.specs.Candidates.{box_of, thread_of, ticket_of}
+use Rattle.run_log.specs.LineWords.{is_dot, is_hash}
 use Rattle.run_log.proofs.NumberLemmas.{number_of_decimal}
 use Rattle.run_log.proofs.WordLemmas.{AllAbove, above-append, above-lower, above_decimal, after_first_is, before_first_is, dot_above, dot_is, hash_above, hash_is}
 

@@ -1,17 +1,14 @@
 -- What is read of a line has numbers of its types.
-use Rattle.std.proofs.Common.{◌≡◌, ℕ, zero, suc, ◌+◌, ◌^◌, ◌<◌, ◌≤◌, Bool, true, false, min, List, [], ◌∷◌, refl, arith}
-use Rattle.std.specs.Prelude.{if◌then◌else◌, nat_eq, codes}
+use Rattle.std.proofs.Common.{ℕ, zero, suc, Bool, true, false, List, refl, arith}
+use Rattle.std.specs.Prelude.{if◌then◌else◌}
 use Rattle.std.specs.List.{AllByRecursion}
-use Rattle.std.specs.Str.{bytes_eq}
-use Rattle.flat_model.specs.declared.events.Logged.{Logged}
 use Rattle.flat_model.specs.declared.events.Logged.TheVariants as item
-use Rattle.flat_model.specs.declared.events.Reply.{Reply}
 use Rattle.flat_model.specs.declared.events.Reply.TheVariants as reply
-use Rattle.flat_model.specs.declared.events.UnitLine.{UnitLine}
 use Rattle.flat_model.specs.declared.events.UnitLine.TheVariants as line
 use Rattle.flat_model.specs.declared.parts.Config.{Config}
 use Rattle.addr_base.specs.declared.identity.Ticket.{Ticket}
-use Rattle.run_log.specs.Candidates.{box_of, done_of, end_of, flaw_of, frames_of, idle_of, item_of, kind_of, number_of, reply_of, ring_of, small_of, smalls_at, start_of, start_reply_of, started_of, ticket_of, turn_of, unit_of, verdict_of, word_at}
+use Rattle.run_log.specs.Candidates.{box_of, done_of, end_of, flaw_of, frames_of, idle_of, item_of, kind_of, reply_of, ring_of, smalls_at, start_of, start_reply_of, started_of, ticket_of, turn_of, unit_of, verdict_of}
+use Rattle.run_log.specs.LineWords.{number_of, small_of, word_at}
 use Rattle.run_log.specs.Typed.{Fits8, Fits32, IsTypedEnd, IsTypedFrames, IsTypedItem, IsTypedLine, IsTypedReply, IsTypedStarted}
 
 -- a fact of a value, kept with the value

@@ -1,14 +1,13 @@
 -- Which bytes the words of a line have, and how a line is taken apart.
-use Rattle.std.proofs.Common.{◌≡◌, ℕ, zero, suc, ◌+◌, ◌-◌, ◌*◌, ◌/◌, ◌%◌, ◌^◌, ◌<◌, ◌≤◌, Bool, true, false, not, nat_lt, List, [], ◌∷◌, ◌++◌, length, take, drop, refl, ap, sym, ◌∙◌, arith, append_assoc, length-append}
-use Rattle.std.specs.Prelude.{nat_eq, map}
+use Rattle.std.proofs.Common.{◌≡◌, ℕ, zero, suc, ◌+◌, ◌/◌, ◌%◌, ◌^◌, ◌<◌, ◌≤◌, Bool, true, false, List, [], ◌∷◌, ◌++◌, length, drop, refl, ap, sym, ◌∙◌, arith, append_assoc, length-append}
 use Rattle.std.specs.Fmt.{decimal}
-use Rattle.std.specs.List.{after_first, before_first, join_with_byte, onto_first, position_or_len, prefix_len, slice_split}
-use Rattle.std.proofs.lemmas.Bool.{cases_lt, lt-ltb, ne_eqb}
+use Rattle.std.specs.List.{after_first, before_first, join_with_byte, position_or_len, slice_split}
+use Rattle.std.proofs.lemmas.Bool.{ne_eqb}
 use Rattle.std.proofs.lemmas.Bool.Decides.{nat_tests}
 use Rattle.std.proofs.lemmas.Fmt.{decimal_by_steps}
 use Rattle.std.proofs.lemmas.List.{drop_at, take_at}
-use Rattle.flat_model.specs.Text.{hex_digit, hex_digits, hex_word, line_of}
-use Rattle.run_log.specs.Candidates.{is_dot, is_hash, is_space, words_of}
+use Rattle.flat_model.specs.Text.{hex_digit, hex_digits, hex_word}
+use Rattle.run_log.specs.LineWords.{is_dot, is_hash, is_space, words_of}
 
 -- each byte is above a number
 abbrev pub AllAbove : ℕ → List ℕ → Type 0

@@ -1,6 +1,6 @@
 -- The words of an item and of an end have neither spaces nor line feeds.
-use Rattle.std.proofs.Common.{◌≡◌, ℕ, zero, suc, ◌+◌, ◌-◌, ◌^◌, ◌<◌, ◌≤◌, Bool, true, false, List, [], ◌∷◌, ◌++◌, length, take, drop, refl, ap, sym, ◌∙◌, arith}
-use Rattle.std.specs.Prelude.{nat_le, nat_lt, map, codes, if◌then◌else◌, ◌&&◌}
+use Rattle.std.proofs.Common.{◌≡◌, ℕ, zero, suc, ◌^◌, ◌<◌, Bool, true, false, List, [], ◌∷◌, length, take, refl, ap, sym, ◌∙◌, arith}
+use Rattle.std.specs.Prelude.{nat_lt, map, codes, if◌then◌else◌, ◌&&◌}
 use Rattle.std.specs.Fmt.{decimal}
 use Rattle.std.specs.List.{AllByRecursion, list_all}
 use Rattle.std.proofs.lemmas.Bool.{ltb-true}
@@ -29,7 +29,7 @@ use Rattle.flat_model.proofs.NamedChoices.{both_true}
 use Rattle.flat_model.specs.Log.{is_full_reply, is_idle_reply, is_named_choice, is_named_item, is_named_line, is_named_verdict, is_ring_reply, is_size, is_start_reply, is_turn_reply}
 use Rattle.flat_model.specs.Sound.{IsSound}
 use Rattle.flat_model.specs.Step.{home_of}
-use Rattle.flat_model.specs.Text.{box_name, entry_words, flaw_text, hex_word, item_words, kind_text, mode_text, reply_words, thread_text, ticket_text, unit_words, verdict_words}
+use Rattle.flat_model.specs.Text.{box_name, entry_words, flaw_text, hex_word, item_words, kind_text, mode_text, reply_words, thread_text, unit_words, verdict_words}
 use Rattle.run_log.specs.Typed.{Fits8, IsTypedChoice, IsTypedEnd, IsTypedItem, IsTypedLine, IsTypedReply}
 use Rattle.run_log.proofs.ThreadsBack.{box_name_above, thread_above, ticket_above}
 use Rattle.run_log.proofs.WordLemmas.{AllAbove, AreWords, above-lower, above_decimal, above_hex}

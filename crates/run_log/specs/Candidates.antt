@@ -1,6 +1,6 @@
 -- Inner: no public contract cites this. The one item or end that a line can be the text of.
-use Rattle.std.specs.Prelude.{ℕ, zero, suc, ◌+◌, ◌-◌, ◌*◌, Bool, true, not, nat_eq, nat_lt, min, unwrap_or, List, [], ◌∷◌, length, codes, if◌then◌else◌, slice_get}
-use Rattle.std.specs.List.{after_first, before_first, position_or_len, slice_split}
+use Rattle.std.specs.Prelude.{ℕ, zero, suc, ◌+◌, ◌-◌, Bool, true, not, nat_eq, min, List, [], ◌∷◌, length, codes, if◌then◌else◌}
+use Rattle.std.specs.List.{after_first, before_first, position_or_len}
 use Rattle.std.specs.Str.{bytes_eq}
 use Rattle.addr_base.specs.declared.identity.BoxId.{BoxId}
 use Rattle.addr_base.specs.declared.identity.ThreadId.{ThreadId}
@@ -26,43 +26,7 @@ use Rattle.flat_model.specs.declared.logs.End.{End}
 use Rattle.flat_model.specs.declared.parts.Config.{Config}
 use Rattle.flat_model.specs.Step.{home_of}
 use Rattle.flat_model.specs.Text.{first_thread}
-
--- whether the byte separates words
-unfoldable pub is_space : ℕ → Bool
-is_space b = nat_eq b 32
-
--- whether the byte ends the name in a thread
-unfoldable pub is_dot : ℕ → Bool
-is_dot b = nat_eq b 46
-
--- whether the byte ends the thread in a ticket
-unfoldable pub is_hash : ℕ → Bool
-is_hash b = nat_eq b 35
-
--- the words of a line
-abbrev pub words_of : List ℕ → List (List ℕ)
-words_of line = slice_split is_space line
-
--- the word at a place, or nothing past the last
-abbrev pub word_at : List (List ℕ) → ℕ → List ℕ
-word_at words k = unwrap_or (slice_get words k) []
-
--- the value of a digit
-unfoldable pub digit_of : ℕ → ℕ
-digit_of b = if nat_lt b 58 then b - 48 else (if nat_lt b 71 then b - 55 else 0)
-
--- the number that digits write after others
-abbrev pub number_after : ℕ → ℕ → List ℕ → ℕ
-number_after radix n [] = n
-number_after radix n (b ∷ bs) = number_after radix (n * radix + digit_of b) bs
-
--- the number of 32 bits that a word writes
-unfoldable pub number_of : ℕ → List ℕ → ℕ
-number_of radix word = min (number_after radix 0 word) 4294967295
-
--- the number of 8 bits that a word writes
-unfoldable pub small_of : List ℕ → ℕ
-small_of word = min (number_of 10 word) 255
+use Rattle.run_log.specs.LineWords.{is_dot, is_hash, number_of, small_of, word_at}
 
 -- the box of a name
 unfoldable pub box_of : Config → List ℕ → BoxId

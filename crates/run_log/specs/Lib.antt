@@ -1,4 +1,5 @@
 pub mod Candidates
+pub mod LineWords
 pub mod Lines
 pub mod Reading
 pub mod Sample

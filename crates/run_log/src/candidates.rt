@@ -1,110 +1,19 @@
-ghost use Rattle.std.specs.Prelude.{◌≡◌, ◌<◌, ◌≤◌, length, slice_get};
-ghost use Rattle.std.specs.List.{after_first, before_first};
-ghost use Rattle.std.specs.Option.{option_copied};
-ghost use Rattle.std.specs.Str.{bytes_eq};
-ghost use Rattle.flat_model.specs.Sound.{IsSound};
-ghost use Rattle.run_log.specs.Candidates.{box_of, digit_of, done_of, end_of, flaw_of, frames_of, had_room, idle_of, is_dot, is_hash, is_space, item_of, kind_of, mode_of, number_of, reply_of, ring_of, small_of, start_of, start_reply_of, started_of, thread_of, ticket_of, turn_of, unit_of, verdict_of, word_at, words_of};
+ghost use Rattle.std.specs.Prelude.{◌≡◌};
+ghost use Rattle.run_log.specs.Candidates.{box_of, done_of, end_of, flaw_of, frames_of, had_room, idle_of, item_of, kind_of, mode_of, reply_of, ring_of, start_of, start_reply_of, started_of, thread_of, ticket_of, turn_of, unit_of, verdict_of};
+ghost use Rattle.run_log.specs.LineWords.{digit_of, is_dot, is_hash, is_space, number_of, small_of, word_at, words_of};
 
 use crate::items::{first_thread, home_of};
+<<<<<<< HEAD
+=======
+use crate::words::{
+    hex_at, is_text, number_of, parted_at_dot, parted_at_hash, small_at, small_of, word_at,
+    word_count,
+};
+>>>>>>> 9cf14598072a706c7f0986f602117354ed9e4424
 use flat_model::{
     BoxId, Choice, Config, End, Entry, Flaw, Frames, Kind, Line, Logged, Mode, Pair, Reply,
     Started, ThreadId, Ticket, UnitLine, Verdict,
 };
-
-#[tactic(auto, unfolding(crate::specs::Candidates::is_space))]
-fn is_space(b: u8) -> bool
-    ensures { result ≡ is_space b }
-{
-    b == b' '
-}
-
-fn some_word(line: &[u8], place: usize) -> Option<&[u8]>
-    ensures { option_copied result ≡ slice_get (words_of line.now) place }
-{
-    line.split(|b| is_space(*b)).nth(place)
-}
-
-// The word of a line at a place, or nothing past the last word.
-fn word_at(line: &[u8], place: usize) -> &[u8]
-    ensures { result.now ≡ word_at (words_of line.now) place }
-{
-    match some_word(line, place) {
-        Some(word) => word,
-        None => &[],
-    }
-}
-
-fn word_count(line: &[u8]) -> usize
-    ensures { result ≡ length (words_of line.now) }
-{
-    line.split(|b| is_space(*b)).count()
-}
-
-fn is_text(word: &[u8], text: &str) -> bool
-    ensures { result ≡ bytes_eq word.now text.now }
-{
-    word == text.as_bytes()
-}
-
-// What stands before the first such byte, and after it.
-#[tactic(auto, unfolding(crate::specs::Candidates::is_dot))]
-fn parted_at_dot(word: &[u8]) -> (&[u8], &[u8])
-    ensures before { result.0.now ≡ before_first is_dot word.now }
-    ensures after { result.1.now ≡ after_first is_dot word.now }
-{
-    for (i, b) in word.iter().enumerate() {
-        if *b == b'.' {
-            return (&word[..i], &word[i + 1..]);
-        }
-    }
-    (word, &[])
-}
-
-#[tactic(auto, unfolding(crate::specs::Candidates::is_hash))]
-fn parted_at_hash(word: &[u8]) -> (&[u8], &[u8])
-    ensures before { result.0.now ≡ before_first is_hash word.now }
-    ensures after { result.1.now ≡ after_first is_hash word.now }
-{
-    for (i, b) in word.iter().enumerate() {
-        if *b == b'#' {
-            return (&word[..i], &word[i + 1..]);
-        }
-    }
-    (word, &[])
-}
-
-#[tactic(auto, unfolding(crate::specs::Candidates::digit_of))]
-fn digit_of(b: u8) -> u8
-    ensures { result ≡ digit_of b }
-{
-    if b < 58 {
-        b.saturating_sub(48)
-    } else if b < 71 {
-        b - 55
-    } else {
-        0
-    }
-}
-
-#[tactic(auto, unfolding(crate::specs::Candidates::number_of))]
-fn number_of(radix: u64, word: &[u8]) -> u32
-    requires least { 1 ≤ radix }
-    requires most { radix ≤ 16 }
-    ensures { result ≡ number_of radix word.now }
-{
-    let mut value: u64 = 0;
-    for b in word {
-        value = (value * radix + u64::from(digit_of(*b))).min(0xFFFF_FFFF);
-    }
-    value as u32
-}
-
-#[tactic(auto, unfolding(crate::specs::Candidates::small_of))]
-fn small_of(word: &[u8]) -> u8
-    ensures { result ≡ small_of word.now }
-{
-    number_of(10, word).min(255) as u8
-}
 
 #[tactic(auto, unfolding(crate::specs::Candidates::box_of))]
 fn box_of(config: &Config, name: &[u8]) -> BoxId
@@ -220,18 +129,6 @@ fn unit_of(config: &Config, line: &[u8]) -> UnitLine
     } else {
         UnitLine::Flush
     }
-}
-
-fn small_at(line: &[u8], place: usize) -> u8
-    ensures { result ≡ small_of (word_at (words_of line.now) place) }
-{
-    small_of(word_at(line, place))
-}
-
-fn hex_at(line: &[u8], place: usize) -> u32
-    ensures { result ≡ number_of 16 (word_at (words_of line.now) place) }
-{
-    number_of(16, word_at(line, place))
 }
 
 #[tactic(auto, unfolding(crate::specs::Candidates::frames_of))]

@@ -327,7 +327,7 @@ pub fn push_item(config: &Config, item: &Logged, page: &mut Page)
     ensures typed { is_named_item config.now item.now ≡ true → IsTypedItem item.now }
 {
     push_item_words(config, item, page);
-    page.push_byte(b'\n');
+    page.end_line();
 }
 
 /// Prints the line of what a thread is at the end without its line feed.
@@ -356,5 +356,5 @@ pub fn push_end(config: &Config, t: ThreadId, end: &End, page: &mut Page)
     ensures typed { IsTypedEnd end.now }
 {
     push_end_words(config, t, end, page);
-    page.push_byte(b'\n');
+    page.end_line();
 }

@@ -10,6 +10,7 @@ mod page;
 mod reading;
 #[cfg(test)]
 mod tests;
+mod words;
 mod writing;
 
 pub use items::{push_end, push_item, push_name, push_thread};

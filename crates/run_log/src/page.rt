@@ -65,6 +65,15 @@ impl Page {
         self.bytes.push(byte);
     }
 
+    /// Ends a line.
+    pub fn end_line(&mut self)
+        requires { length self.old < PAGE }
+        ensures text { self.new ≡ self.old ++ 10 ∷ [] }
+        ensures long { length self.new ≡ length self.old + 1 }
+    {
+        self.push_byte(b'\n');
+    }
+
     /// Prints bytes as they are.
     pub fn push_bytes(&mut self, bytes: &[u8])
         requires { length self.old + length bytes.now ≤ PAGE }

@@ -1,5 +1,5 @@
 use Rattle.std.proofs.Common.{refl, arith}
-use Rattle.run_log.proofs.ReadingLemmas.{end_at, no_end_at, no_end_line}
+use Rattle.run_log.proofs.ReadingLemmas.{no_end_at, no_end_line}
 use Rattle.run_log.proofs.reading.next_end.Goals as goal
 
 pub returns-in-None-read_end-clause-none : goal.returns-in-None-read_end-clause-none

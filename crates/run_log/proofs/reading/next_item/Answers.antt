@@ -1,5 +1,5 @@
 use Rattle.std.proofs.Common.{refl}
-use Rattle.run_log.proofs.ReadingLemmas.{item_at, no_item_at, no_item_line}
+use Rattle.run_log.proofs.ReadingLemmas.{no_item_at, no_item_line}
 use Rattle.run_log.proofs.reading.next_item.Goals as goal
 
 pub returns-in-None-read_item-clause-none : goal.returns-in-None-read_item-clause-none

@@ -1,4 +1,4 @@
-use Rattle.std.proofs.Common.{◌≡◌, ◌∷◌, [], ap, length, length-append, arith}
+use Rattle.std.proofs.Common.{◌∷◌, [], ap, length, length-append, arith}
 use Rattle.run_log.proofs.LoopLemmas.{ends_more}
 use Rattle.run_log.proofs.reading.read_ends.Goals as goal
 

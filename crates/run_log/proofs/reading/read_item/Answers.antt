@@ -1,4 +1,3 @@
-use Rattle.std.proofs.Common.{sym, ◌∙◌}
 use Rattle.run_log.proofs.ReadingLemmas.{item_found, item_other, item_unnamed}
 use Rattle.run_log.proofs.reading.read_item.Goals as goal
 

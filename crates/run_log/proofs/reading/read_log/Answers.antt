@@ -1,4 +1,4 @@
-use Rattle.std.proofs.Common.{◌≡◌, ap, inl, length, Ok, ◌∙◌, Err, arith}
+use Rattle.std.proofs.Common.{ap, inl, Ok, ◌∙◌, Err, arith}
 use Rattle.std.proofs.lemmas.Result.{err_from_is_err_and}
 use Rattle.run_log.proofs.LoopLemmas.{ends_cause, memory_only, read_is, read_is_one}
 use Rattle.run_log.proofs.reading.read_log.Goals as goal

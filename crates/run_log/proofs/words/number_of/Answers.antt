@@ -1,6 +1,6 @@
 use Rattle.std.proofs.Common.{arith}
 use Rattle.run_log.proofs.NumberLemmas.{capped_more}
-use Rattle.run_log.proofs.candidates.number_of.Goals as goal
+use Rattle.run_log.proofs.words.number_of.Goals as goal
 
 pub loop-b-preserved : goal.loop-b-preserved
 loop-b-preserved c = record {

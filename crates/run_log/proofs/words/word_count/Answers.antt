@@ -1,8 +1,8 @@
 use Rattle.std.proofs.Common.{rules, tests}
 use Rattle.std.proofs.lemmas.Iterator.Consumers.{count_from_yields_List}
 use Rattle.std.proofs.lemmas.Iterator.Splits.{YieldsList-from_slice_split}
-use Rattle.run_log.specs.Candidates.{is_space}
-use Rattle.run_log.proofs.candidates.word_count.Goals as goal
+use Rattle.run_log.specs.LineWords.{is_space}
+use Rattle.run_log.proofs.words.word_count.Goals as goal
 
 pub returns : goal.returns
 returns c =

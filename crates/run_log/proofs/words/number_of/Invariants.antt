@@ -1,6 +1,6 @@
 use Rattle.std.proofs.Common.{◌≡◌, ◌≤◌, min, drop}
-use Rattle.run_log.specs.Candidates.{number_after}
-use Rattle.run_log.proofs.candidates.number_of.Given as goal
+use Rattle.run_log.specs.LineWords.{number_after}
+use Rattle.run_log.proofs.words.number_of.Given as goal
 
 abbrev pub invariant-loop-b : goal.invariant-loop-b
 invariant-loop-b l = record {
