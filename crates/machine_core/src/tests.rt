@@ -4,12 +4,8 @@ ghost use Rattle.machine_core.specs.Fixture as fixture;
 use crate::Machine;
 use flat_model::{
     Board, BoxId, BoxPart, Choice, Config, Drive, End, Entry, Flaw, Instr, Item, Items, Kind,
-<<<<<<< HEAD
     Logged, Mode, OutOfMemory, Pair, Range, Reply, Rights, Text, ThreadId, ThreadPart, UnitLine,
     Verdict,
-=======
-    Logged, Mode, OutOfMemory, Range, Reply, Rights, Text, ThreadId, ThreadPart, UnitLine, Verdict,
->>>>>>> 8c73fe416d61b54342b16fd6d69b65500d4b7f05
 };
 use std::alloc::Global;
 use std::test::Fail;
@@ -85,18 +81,9 @@ fn part(
     })
 }
 
-<<<<<<< HEAD
 fn thread(alloc: Global, home: u8, program: &[Instr], steps: u32) -> Result<ThreadPart, OutOfMemory>
     ensures { IfOk result (λ thread. thread ≡ fixture.thread home program.now steps) }
 {
-=======
-fn thread(
-    alloc: Global,
-    home: u8,
-    program: &[Instr],
-    steps: u32,
-) -> Result<ThreadPart, OutOfMemory> {
->>>>>>> 8c73fe416d61b54342b16fd6d69b65500d4b7f05
     Ok(ThreadPart {
         home: BoxId(home),
         program: Items::from_vec(Vec::from_slice(alloc, program)?),
@@ -118,7 +105,6 @@ fn two_boxes(alloc: Global) -> Result<Config, OutOfMemory>
     let using = [Instr::Set(0, 0x4000_0020), Instr::Load32(3, 0, 0xDC)];
     let prying = [Instr::Set(0, 0x2000_0000), Instr::Load32(1, 0, 0)];
     let turning = [Instr::Set(1, 1), Instr::Jump(0)];
-<<<<<<< HEAD
     let a = part(alloc, "a", 0x2000_0000, 0, &[GRANT])?;
     let b = part(alloc, "b", 0x2000_0100, 2, &[])?;
     let boxes = vec![in alloc; a, b]?;
@@ -127,18 +113,6 @@ fn two_boxes(alloc: Global) -> Result<Config, OutOfMemory>
     let third = thread(alloc, 1, &prying, 100)?;
     let fourth = thread(alloc, 1, &turning, 2)?;
     let threads = vec![in alloc; first, second, third, fourth]?;
-=======
-    let boxes = vec![in alloc;
-        part(alloc, "a", 0x2000_0000, 0)?,
-        part(alloc, "b", 0x2000_0100, 2)?,
-    ]?;
-    let threads = vec![in alloc;
-        thread(alloc, 0, &storing, 100)?,
-        thread(alloc, 0, &asking, 100)?,
-        thread(alloc, 1, &prying, 100)?,
-        thread(alloc, 1, &turning, 2)?,
-    ]?;
->>>>>>> 8c73fe416d61b54342b16fd6d69b65500d4b7f05
     Ok(Config {
         version: 1,
         board: board(alloc),

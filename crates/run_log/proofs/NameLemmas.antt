@@ -18,10 +18,7 @@ short_from true true c n e h = leb-true n 15 e
 short_from true false c n e h = cc
 short_from false b c n e h = cc
 
-<<<<<<< HEAD
-=======
 -- a name has at most 16 bytes
->>>>>>> 9cf14598072a706c7f0986f602117354ed9e4424
 pub name_short : (name : List ℕ) → is_name name ≡ true → length name ≤ 16
 name_short [] h = omega arith
 name_short (byte ∷ bytes) h =

@@ -3,13 +3,10 @@ ghost use Rattle.run_log.specs.Candidates.{box_of, done_of, end_of, flaw_of, fra
 ghost use Rattle.run_log.specs.LineWords.{digit_of, is_dot, is_hash, is_space, number_of, small_of, word_at, words_of};
 
 use crate::items::{first_thread, home_of};
-<<<<<<< HEAD
-=======
 use crate::words::{
     hex_at, is_text, number_of, parted_at_dot, parted_at_hash, small_at, small_of, word_at,
     word_count,
 };
->>>>>>> 9cf14598072a706c7f0986f602117354ed9e4424
 use flat_model::{
     BoxId, Choice, Config, End, Entry, Flaw, Frames, Kind, Line, Logged, Mode, Pair, Reply,
     Started, ThreadId, Ticket, UnitLine, Verdict,
