@@ -9,6 +9,8 @@ mod commands;
 mod refusal_text;
 mod runnable;
 mod scripting;
+#[cfg(test)]
+mod tests;
 mod top;
 
 pub use acceptance::accept;
