@@ -5,6 +5,7 @@ use Rattle.std.specs.Option.{option_or}
 use Rattle.addr_base.specs.declared.ranges.Range.{Range}
 use Rattle.addr_base.specs.Range.{end_of}
 use Rattle.box_program.specs.Program.{program}
+use Rattle.addr_base.specs.Rights.{read_write}
 use Rattle.flat_model.specs.declared.boards.Board.{Board}
 use Rattle.flat_model.specs.declared.instructions.BadLine.{BadLine}
 use Rattle.flat_model.specs.declared.instructions.Instr.{Instr}
@@ -26,7 +27,7 @@ use Rattle.flat_model.specs.declared.texts.GrantText.{GrantText}
 use Rattle.flat_model.specs.declared.texts.RegText.{RegText}
 use Rattle.flat_model.specs.declared.texts.RpcText.{RpcText}
 use Rattle.flat_model.specs.declared.texts.ThreadText.{ThreadText}
-use Rattle.flat_model.specs.Items.{flash_items, read_write}
+use Rattle.flat_model.specs.Items.{flash_items}
 use Rattle.flat_model.specs.Placing.{limit_of}
 use Rattle.acl_resolver.specs.Naming.{bad_device, bad_gateway, bad_script, box_named, no_server, script_words, set_of_names, word_of_text}
 use Rattle.acl_resolver.specs.Refusals.{bad_grant, clash, first_numbered, grant_outside, line_taken, no_room, own_after, rounded_range, self_overlap}

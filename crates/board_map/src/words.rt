@@ -62,7 +62,7 @@ pub fn op_of(text: &str) -> Option<Op>
     }
 }
 
-// Whether the text is one of the words.
+/// Whether the text is one of the words that a key may have.
 #[tactic(auto, unfolding(crate::specs::Words::is_word))]
 pub fn is_word(choice: Choice, text: &str) -> bool
     ensures { result ≡ is_word choice text.now }

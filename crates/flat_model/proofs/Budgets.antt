@@ -1,6 +1,6 @@
 -- How steps are counted, and that budgets bound them.
-use Rattle.std.proofs.Common.{◌≡◌, ℕ, zero, suc, ◌+◌, ◌-◌, ◌*◌, ◌<◌, ◌≤◌, Bool, true, false, ◌&&◌, not, cond, Option, Some, None, List, [], ◌∷◌, refl, sym, ap, ◌∙◌, subst, arith, length, nat_eq, nat_le, inl, inr}
-use Rattle.std.specs.List.{slice_get, slice_set}
+use Rattle.std.proofs.Common.{◌≡◌, ℕ, ◌+◌, ◌-◌, ◌<◌, Bool, true, false, not, cond, Option, Some, None, refl, sym, ap, ◌∙◌, arith, nat_eq, nat_le}
+use Rattle.std.specs.List.{slice_get}
 use Rattle.std.proofs.lemmas.Bool.{true≢false}
 use Rattle.std.proofs.lemmas.Bool.Decides.{nat_tests}
 use Rattle.std.specs.Prelude.{◌==◌}
@@ -23,15 +23,13 @@ use Rattle.flat_model.specs.declared.states.Awaited.{Awaited}
 use Rattle.flat_model.specs.declared.states.Shared.{Shared}
 use Rattle.flat_model.specs.declared.states.ThreadState.{ThreadState}
 use Rattle.flat_model.specs.Access.{is_aligned, may_access}
-use Rattle.flat_model.specs.AccessRows.{access_at, access_of, access_row, performed_row, violation_of}
+use Rattle.flat_model.specs.AccessRows.{access_at, access_row, performed_row, violation_of}
 use Rattle.flat_model.specs.Calls.{open_call}
 use Rattle.flat_model.specs.Interrupts.{due_interrupt}
-use Rattle.flat_model.specs.Local.{branch_row, local_row}
 use Rattle.flat_model.specs.Outcome.{Outcome, by_itself, fault_row}
-use Rattle.flat_model.specs.StepsLeft.{steps_left, steps_left_of}
 use Rattle.flat_model.specs.Thread.{looking, register, timed_out, bounded, counted, has_ended, is_stopped, is_waiting, moved}
-use Rattle.flat_model.specs.Today.{is_run_today, runs_today}
-use Rattle.flat_model.specs.Turn.{acting_row, instruction_row, look_row, own_or_shared_row, own_ticket, ready_row, result_of, turn_row, waiting_row, within_budget}
+use Rattle.flat_model.specs.Today.{runs_today}
+use Rattle.flat_model.specs.Turn.{acting_row, instruction_row, look_row, own_ticket, ready_row, result_of, turn_row, waiting_row, within_budget}
 
 stopped-ended : (th : ThreadState) (m : Mode) → is_stopped m ≡ true → has_ended (record th { mode = m }) ≡ true
 stopped-ended th mode.Ready stopped = cc

@@ -1,5 +1,5 @@
 -- Lists of one value.
-use Rattle.std.proofs.Common.{◌≡◌, ℕ, zero, suc, ◌+◌, List, [], ◌∷◌, ◌++◌, replicate, refl, ap, sym, ◌∙◌}
+use Rattle.std.proofs.Common.{◌≡◌, ℕ, ◌+◌, [], ◌∷◌, ◌++◌, replicate}
 use Rattle.std.proofs.lemmas.List.{replicate-append-replicate}
 
 -- one copy more at the end

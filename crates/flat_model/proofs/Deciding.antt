@@ -1,11 +1,10 @@
 -- The verdict by the region that decides.
-use Rattle.std.proofs.Common.{◌≡◌, ℕ, ◌<◌, ◌≤◌, Bool, true, false, List, length, Option, Some, None, refl, sym, ◌∙◌, ap}
+use Rattle.std.proofs.Common.{◌≡◌, ℕ, ◌<◌, true, false, List, length, Some, None, ◌∙◌, ap}
 use Rattle.std.specs.Prelude.{if◌then◌else◌}
 use Rattle.std.specs.List.{slice_get}
 use Rattle.std.specs.Option.{option_map_or}
 use Rattle.std.proofs.lemmas.Option.{slice_get_within}
 use Rattle.addr_base.specs.declared.pairs.Pair.{Pair}
-use Rattle.addr_base.specs.declared.pairs.Verdict.{Verdict}
 use Rattle.addr_base.specs.declared.pairs.Verdict.TheVariants.{Granted, Denied}
 use Rattle.addr_base.specs.declared.rights.Kind.{Kind}
 use Rattle.flat_model.specs.Greatest.{IsGreatest}

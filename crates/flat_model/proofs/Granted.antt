@@ -15,7 +15,7 @@ use Rattle.addr_base.specs.declared.ranges.Range.{Range}
 use Rattle.addr_base.specs.declared.rights.Kind.{Kind}
 use Rattle.addr_base.specs.declared.rights.Kind.TheVariants.{Read, Write, Fetch}
 use Rattle.addr_base.specs.Range.{end_of, in_range}
-use Rattle.addr_base.specs.Rights.{gives}
+use Rattle.addr_base.specs.Rights.{gives, read_execute, read_write}
 use Rattle.flat_model.specs.declared.accesses.Access.{Access}
 use Rattle.flat_model.specs.declared.boards.Board.{Board}
 use Rattle.flat_model.specs.declared.boards.HeapPart.{HeapPart}
@@ -24,7 +24,7 @@ use Rattle.flat_model.specs.declared.parts.Config.{Config}
 use Rattle.flat_model.specs.declared.parts.Item.{Item}
 use Rattle.flat_model.specs.Access.{in_heap, is_aligned, is_data, item_holds, items_at, may_access, owned_by}
 use Rattle.flat_model.specs.Decision.{decision, is_granted}
-use Rattle.flat_model.specs.Items.{code_between, flash_items, items_of, read_execute, read_write}
+use Rattle.flat_model.specs.Items.{code_between, flash_items, items_of}
 use Rattle.flat_model.specs.Plan.{REGIONS, first_serving, flash_pair, overlay_pair, own_pair, owns, plan_of, switch_slots}
 use Rattle.flat_model.specs.UnitRun.{UnitState, accessed, entered, flushed, is_last, rotated, rotating_pair, unit_after_event}
 use Rattle.flat_model.proofs.Covers.{IsOneBlock}

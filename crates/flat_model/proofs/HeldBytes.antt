@@ -12,10 +12,10 @@ use Rattle.addr_base.specs.declared.identity.BoxId.{BoxId}
 use Rattle.addr_base.specs.declared.ranges.Range.{Range}
 use Rattle.addr_base.specs.declared.rights.Kind.{Kind}
 use Rattle.addr_base.specs.Range.{end_of, holds_bytes, in_range}
-use Rattle.addr_base.specs.Rights.{gives}
+use Rattle.addr_base.specs.Rights.{gives, read_execute}
 use Rattle.flat_model.specs.declared.parts.Item.{Item}
 use Rattle.flat_model.specs.Access.{in_pages, item_holds, owned_by}
-use Rattle.flat_model.specs.Items.{code_between, flash_items, flash_whole, read_execute}
+use Rattle.flat_model.specs.Items.{code_between, flash_items, flash_whole}
 use Rattle.flat_model.specs.Plan.{owns}
 
 -- the sizes of accesses

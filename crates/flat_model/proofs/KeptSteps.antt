@@ -1,8 +1,6 @@
 -- What a step leaves of the threads: how many there are, and how many steps they may still take.
-use Rattle.std.proofs.Common.{◌≡◌, ℕ, zero, suc, ◌+◌, ◌-◌, ◌*◌, ◌^◌, ◌<◌, ◌≤◌, ◌⊎◌, Bool, true, false, cond, Option, Some, None, List, [], ◌∷◌, ◌++◌, map, replicate, refl, sym, ap, ◌∙◌, subst, arith, length, inl, inr, add-zero}
-use Rattle.std.specs.List.{AllByRecursion, slice_get, slice_set}
-use Rattle.std.proofs.lemmas.Bool.{true≢false}
-use Rattle.std.proofs.lemmas.List.{length-set}
+use Rattle.std.proofs.Common.{◌≡◌, ℕ, zero, suc, ◌+◌, ◌<◌, ◌≤◌, ◌⊎◌, Bool, true, false, Option, Some, None, List, [], ◌∷◌, ◌++◌, map, replicate, refl, sym, ap, ◌∙◌, subst, arith, length, inl, inr}
+use Rattle.std.specs.List.{slice_get, slice_set}
 use Rattle.std.proofs.lemmas.Option.{slice_get-map}
 use Rattle.std.specs.Option.{option_map}
 use Rattle.addr_base.specs.declared.identity.BoxId.{BoxId}
@@ -16,12 +14,11 @@ use Rattle.flat_model.specs.declared.parts.Config.{Config}
 use Rattle.flat_model.specs.declared.parts.ThreadPart.{ThreadPart}
 use Rattle.flat_model.specs.declared.states.Flat.{Flat}
 use Rattle.flat_model.specs.declared.states.ThreadState.{ThreadState}
-use Rattle.flat_model.specs.Outcome.{Outcome}
 use Rattle.flat_model.specs.Sound.{IsSound, IsThread, homes_from}
-use Rattle.flat_model.specs.Step.{settled, step, turn_at, turn_in}
+use Rattle.flat_model.specs.Step.{step, turn_at, turn_in}
 use Rattle.flat_model.specs.Want.{is_owned_line}
 use Rattle.flat_model.proofs.WantLemmas.{step-full, step-idle, step-ring, step-start, step-turn, step-unowned}
-use Rattle.flat_model.specs.Stepping.{AllCanStep, CanStep, IsWithin, KeepsBudgets}
+use Rattle.flat_model.specs.Stepping.{AllCanStep, CanStep, IsWithin}
 use Rattle.flat_model.specs.StepsLeft.{steps_left, steps_left_of}
 use Rattle.flat_model.specs.Thread.{has_ended, opening_thread}
 use Rattle.flat_model.specs.Today.{RunsToday}

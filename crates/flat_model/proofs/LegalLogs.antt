@@ -1,8 +1,7 @@
 -- A legal log is the one log of its choices.
-use Rattle.std.proofs.Common.{◌≡◌, ℕ, Bool, true, false, List, [], ◌∷◌, ◌++◌, map, refl, sym, ◌∙◌, ap, append_assoc}
+use Rattle.std.proofs.Common.{◌≡◌, true, List, [], ◌∷◌, ◌++◌, map, refl, sym, ◌∙◌, ap, append_assoc}
 use Rattle.std.proofs.lemmas.Bool.{false≢true}
 use Rattle.std.proofs.lemmas.List.{map-append}
-use Rattle.flat_model.specs.declared.events.Choice.{Choice}
 use Rattle.flat_model.specs.declared.events.Entry.{Entry}
 use Rattle.flat_model.specs.declared.events.Logged.{Logged}
 use Rattle.flat_model.specs.declared.events.Logged.TheVariants as item
@@ -11,7 +10,7 @@ use Rattle.flat_model.specs.declared.events.UnitLine.{UnitLine}
 use Rattle.flat_model.specs.declared.logs.Log.{Log}
 use Rattle.flat_model.specs.declared.parts.Config.{Config}
 use Rattle.flat_model.specs.declared.states.Flat.{Flat}
-use Rattle.flat_model.specs.Legal.{IsFlatRun, IsLegal, IsUnitRun}
+use Rattle.flat_model.specs.Legal.{IsLegal}
 use Rattle.flat_model.specs.Log.{Event, choices_of, ends_with_entry, entries_of, events_after, events_of}
 use Rattle.flat_model.specs.OneLog.{entries_of_run, log_of_choices, woven_items}
 use Rattle.flat_model.specs.Run.{opening_state, replies_to_all}

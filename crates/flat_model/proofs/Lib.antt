@@ -1,3 +1,4 @@
+pub mod AccessReplies
 pub mod Agreement
 pub mod Blocks
 pub mod BoardFacts
@@ -24,6 +25,7 @@ pub mod PagePairs
 pub mod Pieces
 pub mod Placed
 pub mod Powers
+pub mod ReadyWorlds
 pub mod Recovered
 pub mod Recovery
 pub mod Suited

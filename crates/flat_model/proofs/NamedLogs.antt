@@ -1,8 +1,8 @@
 -- A legal log over a sound configuration names what is there.
-use Rattle.std.proofs.Common.{◌≡◌, ℕ, suc, ◌+◌, ◌-◌, ◌<◌, ◌≤◌, Bool, true, false, List, [], ◌∷◌, ◌++◌, length, map, Option, Some, None, refl, sym, ◌∙◌, ap, subst, arith, inl, inr}
-use Rattle.std.specs.Prelude.{◌&&◌, MatchOption, nat_lt, if◌then◌else◌, slice_get, slice_set}
+use Rattle.std.proofs.Common.{◌≡◌, ℕ, ◌-◌, ◌<◌, Bool, true, false, List, [], ◌∷◌, ◌++◌, length, map, Option, Some, None, refl, sym, ◌∙◌, ap, subst, arith, inl, inr}
+use Rattle.std.specs.Prelude.{MatchOption, if◌then◌else◌, slice_get}
 use Rattle.std.specs.List.{AllByRecursion, list_all}
-use Rattle.std.proofs.lemmas.Bool.{cases_Bool, false≢true, lt-ltb}
+use Rattle.std.proofs.lemmas.Bool.{cases_Bool, lt-ltb}
 use Rattle.std.proofs.lemmas.List.{length-map, length-replicate, length-set}
 use Rattle.std.proofs.lemmas.Option.{slice_get_within}
 use Rattle.addr_base.specs.declared.identity.BoxId.{BoxId}
@@ -35,13 +35,13 @@ use Rattle.flat_model.specs.Log.{IsNamed, choices_of, is_box, is_named_item, is_
 use Rattle.flat_model.specs.OneLog.{entries_of_run, log_of_choices, woven_items}
 use Rattle.flat_model.specs.Outcome.{Outcome}
 use Rattle.flat_model.specs.Placing.{common_range}
-use Rattle.flat_model.specs.Plan.{REGIONS, flushed_pairs, next_slot, plan_of, switch_slots}
+use Rattle.flat_model.specs.Plan.{REGIONS, plan_of}
 use Rattle.flat_model.specs.Run.{LINES, end_of_thread, opening_state, state_after_all}
 use Rattle.flat_model.specs.Sound.{IsBox, IsSound}
 use Rattle.flat_model.specs.Step.{empties_slots, fitting_step, instruction_in, reply_to, serve_at, server_row, settled, state_after, step, touch_at, touch_of, turn_at, turn_in}
 use Rattle.flat_model.specs.Thread.{counted, opening_thread}
 use Rattle.flat_model.specs.Turn.{turn_row, within_budget}
-use Rattle.flat_model.specs.UnitRun.{UnitState, access_line, access_lines, actor_of, box_of_event, accessed, entered, flush_lines, flushed, is_last, lines_of_box, lines_of_event, lines_of_run, opening_unit, part_at, rotate_lines, rotated, rotating_pair, switch_lines, unit_after, unit_after_box, unit_after_event, unit_lines}
+use Rattle.flat_model.specs.UnitRun.{UnitState, access_line, access_lines, actor_of, box_of_event, accessed, entered, flush_lines, flushed, is_last, lines_of_box, lines_of_run, opening_unit, part_at, rotate_lines, rotated, rotating_pair, switch_lines, unit_after, unit_after_box, unit_lines}
 use Rattle.flat_model.proofs.Flushing.{OnCircle-next, length-cleared}
 use Rattle.flat_model.proofs.Greatness.{Says-greatest}
 use Rattle.flat_model.proofs.Turning.{OnCircle}

@@ -1,25 +1,21 @@
 -- What the reply to a choice that fits can be.
-use Rattle.std.proofs.Common.{◌≡◌, ℕ, zero, suc, ◌+◌, ◌-◌, ◌<◌, ◌≤◌, Bool, true, false, List, [], ◌∷◌, ◌++◌, length, take, drop, replicate, Option, Some, None, refl, sym, ◌∙◌, ap, subst, arith, inl, inr}
-use Rattle.std.specs.Prelude.{◌&&◌, not, nat_eq, nat_le, nat_lt, is_none, unwrap_or, MatchOption, if◌then◌else◌, slice_get}
+use Rattle.std.proofs.Common.{◌≡◌, ℕ, zero, suc, ◌+◌, ◌-◌, ◌<◌, ◌≤◌, Bool, true, false, List, [], ◌∷◌, ◌++◌, length, take, drop, replicate, Option, Some, None, refl, ap, arith, inl, inr}
+use Rattle.std.specs.Prelude.{◌&&◌, nat_eq, nat_le, nat_lt, is_none, unwrap_or, MatchOption, if◌then◌else◌, slice_get}
 use Rattle.std.specs.List.{AllByRecursion, list_all}
-use Rattle.std.proofs.lemmas.Bool.{cases_Bool, eqb-true, false≢true, le-leb, leb-true, lt-ltb, ltb-true}
+use Rattle.std.proofs.lemmas.Bool.{cases_Bool, le-leb, leb-true, lt-ltb}
 use Rattle.std.proofs.lemmas.Bool.Decides.{nat_tests}
-use Rattle.std.proofs.lemmas.List.{length-append, length-take, length-take-le, take-append-le}
-use Rattle.std.proofs.Math.Seq.{drop-append_seam, take-append_seam}
+use Rattle.std.proofs.lemmas.List.{length-take-le}
 use Rattle.addr_base.specs.declared.identity.BoxId.{BoxId}
 use Rattle.addr_base.specs.declared.rights.Kind.{Kind}
 use Rattle.addr_base.specs.declared.rights.Kind.TheVariants.{Read, Write, Fetch}
 use Rattle.flat_model.specs.declared.accesses.Access.{Access}
 use Rattle.flat_model.specs.declared.boards.Board.{Board}
 use Rattle.flat_model.specs.declared.boards.HeapPart.{HeapPart}
-use Rattle.flat_model.specs.declared.events.Reply.{Reply}
 use Rattle.flat_model.specs.declared.instructions.Instr.{Instr}
 use Rattle.flat_model.specs.declared.instructions.Instr.TheVariants as instr
 use Rattle.flat_model.specs.declared.parts.BoxPart.{BoxPart}
 use Rattle.flat_model.specs.declared.parts.Config.{Config}
 use Rattle.flat_model.specs.declared.parts.IrqPart.{IrqPart}
-use Rattle.flat_model.specs.declared.parts.Op.{Op}
-use Rattle.flat_model.specs.declared.parts.Op.TheVariants as op
 use Rattle.flat_model.specs.declared.parts.RegGate.{RegGate}
 use Rattle.flat_model.specs.declared.parts.RpcGate.{RpcGate}
 use Rattle.flat_model.specs.declared.parts.ThreadPart.{ThreadPart}
@@ -34,7 +30,7 @@ use Rattle.flat_model.specs.AccessRows.{access_of, access_row, performed_row}
 use Rattle.flat_model.specs.Access.{is_aligned, may_access, owned_by}
 use Rattle.flat_model.specs.Calls.{done_value, open_call}
 use Rattle.flat_model.specs.Interrupts.{due_interrupt, has_line, is_pending, lower_of, lowest_pending, saved_context}
-use Rattle.flat_model.specs.KernelRows.{gateway_for, gateway_read, gateway_written, given_row, gw_read_row, gw_value_row, gw_write_row, gw_written_row, has_box, irq_enable_row, irq_return_row, page_free_row, pages_alloc_row, pages_or_none_row, register_for, rpc_post_row, rpc_result_row, rpc_return_row, rpc_take_row}
+use Rattle.flat_model.specs.KernelRows.{gateway_for, gateway_read, gateway_written, given_row, gw_read_row, gw_value_row, gw_write_row, gw_written_row, irq_enable_row, irq_return_row, page_free_row, pages_alloc_row, pages_or_none_row, register_for, rpc_post_row, rpc_result_row, rpc_return_row, rpc_take_row}
 use Rattle.flat_model.specs.Local.{local_row}
 use Rattle.flat_model.specs.Log.{ascends, is_named_frames, is_turn_reply}
 use Rattle.flat_model.specs.Memory.{word_at}
@@ -42,7 +38,7 @@ use Rattle.flat_model.specs.declared.actors.Who.{Who}
 use Rattle.flat_model.specs.Outcome.{Outcome}
 use Rattle.flat_model.specs.Pages.{frame_at, frames_of, free_frames, is_bad_count, least_free, may_write_words}
 use Rattle.flat_model.specs.Run.{LINES}
-use Rattle.flat_model.specs.Thread.{bounded, counted, has_ended, is_waiting, register}
+use Rattle.flat_model.specs.Thread.{counted, has_ended, is_waiting, register}
 use Rattle.flat_model.specs.Turn.{acting_row, instruction_row, is_server, kernel_row, look_row, own_or_shared_row, own_ticket, ready_row, result_of, served_ticket, shared_row, turn_row, waiting_row}
 
 -- the reply is that of a turn with room

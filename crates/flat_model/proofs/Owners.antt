@@ -1,10 +1,9 @@
 -- Which events change the owners of pages: those alone that empty the slots.
-use Rattle.std.proofs.Common.{◌≡◌, ℕ, zero, suc, ◌-◌, Bool, true, false, ◌&&◌, not, cond, Option, Some, None, List, [], ◌∷◌, refl, sym, ap, ◌∙◌, subst, length, nat_eq, unwrap_or}
+use Rattle.std.proofs.Common.{◌≡◌, ℕ, ◌-◌, Bool, true, false, ◌&&◌, not, cond, Option, Some, None, List, [], ◌∷◌, refl, sym, ap, ◌∙◌, subst, length, nat_eq, unwrap_or}
 use Rattle.std.specs.List.{slice_get, slice_set}
 use Rattle.std.specs.Prelude.{is_none}
 use Rattle.std.proofs.lemmas.List.{length-set}
 use Rattle.addr_base.specs.declared.identity.BoxId.{BoxId}
-use Rattle.addr_base.specs.declared.identity.ThreadId.{ThreadId}
 use Rattle.addr_base.specs.declared.identity.Ticket.{Ticket}
 use Rattle.addr_base.specs.declared.rights.Kind.{Kind}
 use Rattle.addr_base.specs.declared.rights.Kind.TheVariants.{Read, Write, Fetch}
@@ -12,8 +11,6 @@ use Rattle.flat_model.specs.declared.accesses.Access.{Access}
 use Rattle.flat_model.specs.declared.actors.Who.{Who}
 use Rattle.flat_model.specs.declared.boards.Board.{Board}
 use Rattle.flat_model.specs.declared.boards.HeapPart.{HeapPart}
-use Rattle.flat_model.specs.declared.events.Choice.{Choice}
-use Rattle.flat_model.specs.declared.events.Choice.TheVariants as choice
 use Rattle.flat_model.specs.declared.events.Flaw.TheVariants as flaw
 use Rattle.flat_model.specs.declared.events.Mode.{Mode}
 use Rattle.flat_model.specs.declared.events.Mode.TheVariants as mode
@@ -24,7 +21,6 @@ use Rattle.flat_model.specs.declared.instructions.Instr.TheVariants as instr
 use Rattle.flat_model.specs.declared.parts.BoxPart.{BoxPart}
 use Rattle.flat_model.specs.declared.parts.Config.{Config}
 use Rattle.flat_model.specs.declared.parts.IrqPart.{IrqPart}
-use Rattle.flat_model.specs.declared.parts.Op.{Op}
 use Rattle.flat_model.specs.declared.parts.RegGate.{RegGate}
 use Rattle.flat_model.specs.declared.parts.RpcGate.{RpcGate}
 use Rattle.flat_model.specs.declared.parts.ThreadPart.{ThreadPart}
@@ -33,21 +29,20 @@ use Rattle.flat_model.specs.declared.states.Call.{Call}
 use Rattle.flat_model.specs.declared.states.CallState.{CallState}
 use Rattle.flat_model.specs.declared.states.CallState.TheVariants as state
 use Rattle.flat_model.specs.declared.states.Context.{Context}
-use Rattle.flat_model.specs.declared.states.Flat.{Flat}
 use Rattle.flat_model.specs.declared.states.Shared.{Shared}
 use Rattle.flat_model.specs.declared.states.ThreadState.{ThreadState}
 use Rattle.flat_model.specs.Access.{is_aligned, may_access, owned_by}
 use Rattle.flat_model.specs.AccessRows.{access_of, access_row, performed_row, violation_of}
 use Rattle.flat_model.specs.Calls.{open_call}
 use Rattle.flat_model.specs.Interrupts.{due_interrupt, has_line, saved_context}
-use Rattle.flat_model.specs.KernelRows.{gateway_for, gateway_read, gateway_written, given_row, gw_read_row, gw_value_row, gw_write_row, gw_written_row, irq_enable_row, irq_return_row, page_free_row, pages_alloc_row, pages_or_none_row, register_for, rpc_post_row, rpc_result_row, rpc_return_row, rpc_take_row}
+use Rattle.flat_model.specs.KernelRows.{gateway_for, gateway_read, gateway_written, gw_read_row, gw_value_row, gw_write_row, gw_written_row, irq_enable_row, irq_return_row, page_free_row, pages_alloc_row, pages_or_none_row, register_for, rpc_post_row, rpc_result_row, rpc_return_row, rpc_take_row}
 use Rattle.flat_model.specs.Local.{local_row}
 use Rattle.flat_model.specs.Memory.{word_at}
 use Rattle.flat_model.specs.Outcome.{Outcome, by_itself, done_row, fault_row, refused_row}
 use Rattle.flat_model.specs.Pages.{frame_at, is_bad_count, least_free, may_write_words, with_owner}
 use Rattle.flat_model.specs.Step.{is_page_call, is_status}
-use Rattle.flat_model.specs.Thread.{looking, timed_out, counted, has_ended, is_ready, is_waiting, posted, posted_and_waiting, register}
-use Rattle.flat_model.specs.Turn.{acting_row, instruction_row, is_server, kernel_row, look_row, own_or_shared_row, own_ticket, ready_row, result_of, served_ticket, shared_row, turn_row, waiting_row, within_budget}
+use Rattle.flat_model.specs.Thread.{looking, timed_out, counted, posted, posted_and_waiting, register}
+use Rattle.flat_model.specs.Turn.{instruction_row, is_server, kernel_row, look_row, own_or_shared_row, own_ticket, ready_row, result_of, served_ticket, shared_row, turn_row, waiting_row}
 use Rattle.flat_model.specs.Want.{next_instruction}
 
 -- there are as many owners as before, and but for a page call that was done they are the same

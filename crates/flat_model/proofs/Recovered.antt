@@ -1,7 +1,7 @@
 -- What a denial and a rotation tell of a box, also where pages that it freed still stand in the circle.
-use Rattle.std.proofs.Common.{◌≡◌, ◌≢◌, ℕ, zero, suc, ◌+◌, ◌-◌, ◌*◌, ◌/◌, ◌%◌, ◌<◌, ◌≤◌, Bool, true, false, List, [], ◌∷◌, ◌++◌, Option, Some, None, refl, sym, ◌∙◌, ap, subst, arith, inl, inr, ◌⊎◌}
-use Rattle.std.specs.Prelude.{◌&&◌, ◌||◌, not, is_some, nat_le, nat_lt, IfSome}
-use Rattle.std.specs.List.{AllByRecursion, Contains, slice_get}
+use Rattle.std.proofs.Common.{◌≡◌, ℕ, ◌-◌, ◌/◌, true, false, List, Option, Some, None, refl, sym, ◌∙◌, arith, inl, inr}
+use Rattle.std.specs.Prelude.{is_some, IfSome}
+use Rattle.std.specs.List.{Contains, slice_get}
 use Rattle.std.proofs.lemmas.Bool.{and_parts, cases_Bool, false_from_ne_true, false≢true}
 use Rattle.std.proofs.lemmas.List.Elements.{All-contains, All-from_recursion, Contains-append_cases}
 use Rattle.addr_base.specs.declared.identity.BoxId.{BoxId}
@@ -13,7 +13,7 @@ use Rattle.flat_model.specs.declared.boards.HeapPart.{HeapPart}
 use Rattle.flat_model.specs.declared.parts.BoxPart.{BoxPart}
 use Rattle.flat_model.specs.declared.parts.Config.{Config}
 use Rattle.flat_model.specs.Access.{may_access}
-use Rattle.flat_model.specs.Decision.{decision, is_granted, matches, pair_gives}
+use Rattle.flat_model.specs.Decision.{decision, is_granted}
 use Rattle.flat_model.specs.Plan.{REGIONS, first_serving, flash_pair, grant_pairs, overlay_pair, own_pair, owns, page_pairs, plan_of, switch_slots}
 use Rattle.flat_model.proofs.Granted.{HasOwners, may_access-held}
 use Rattle.flat_model.proofs.PageGroups.{gives_pages}

@@ -11,15 +11,14 @@ use Rattle.addr_base.specs.declared.pairs.Pair.{Pair}
 use Rattle.addr_base.specs.declared.ranges.Range.{Range}
 use Rattle.addr_base.specs.declared.rights.Kind.{Kind}
 use Rattle.addr_base.specs.Range.{in_range}
-use Rattle.addr_base.specs.Rights.{gives}
+use Rattle.addr_base.specs.Rights.{gives, read_execute, read_write}
 use Rattle.flat_model.specs.declared.boards.Board.{Board}
 use Rattle.flat_model.specs.declared.boards.HeapPart.{HeapPart}
 use Rattle.flat_model.specs.declared.parts.BoxPart.{BoxPart}
 use Rattle.flat_model.specs.declared.parts.Item.{Item}
 use Rattle.flat_model.specs.Cover.{NO_ACCESS, cover_of, pair_of}
 use Rattle.flat_model.specs.Decision.{matches, pair_gives}
-use Rattle.flat_model.specs.Items.{read_execute, read_write}
-use Rattle.flat_model.specs.Plan.{READ_EXECUTE, READ_WRITE, flash_pair, grant_pairs, no_pair, overlay_pair, own_pair, page_pairs, serves}
+use Rattle.flat_model.specs.Plan.{flash_pair, grant_pairs, no_pair, overlay_pair, own_pair, page_pairs, serves}
 use Rattle.flat_model.specs.Sound.{AreGrantsApart}
 use Rattle.flat_model.proofs.Covers.{OfCover, each-cover_of, list_any-cover_of, matches-hidden, matches-pair_of_rights, pair_gives-hidden, pair_gives-pair_of_rights}
 use Rattle.flat_model.proofs.Elements.{each-append, each-flat_map, each-from_get, each-get, each-map, each_weaker, list_any_at_get, list_any_found}
@@ -98,10 +97,10 @@ module _ (board : Board) (part : BoxPart) (owners : List (Option BoxId)) (b : �
   grant_at i g found = slice_get-map grant_piece part.grants i ∙ ap (option_map grant_piece) found
 
   pub matches-flash : (a : ℕ) → matches (flash_pair board) a ≡ in_range board.flash a
-  matches-flash a = matches-pair_of_rights board.flash READ_EXECUTE placed.flash a
+  matches-flash a = matches-pair_of_rights board.flash read_execute placed.flash a
 
   pub matches-own : (a : ℕ) → matches (own_pair part) a ≡ in_range part.own a
-  matches-own a = matches-pair_of_rights part.own READ_WRITE placed.own a
+  matches-own a = matches-pair_of_rights part.own read_write placed.own a
 
   -- the overlay has exactly the addresses that are hidden from the box, and gives nothing there
   pub matches-overlay : (a : ℕ) → matches (overlay_pair board part) a ≡ is_hidden board.secret part.secret a
@@ -230,10 +229,10 @@ module _ (board : Board) (part : BoxPart) (owners : List (Option BoxId)) (b : �
     flash_gives = λ a found off kind.
         let flash : in_range board.flash a ≡ true = sym (matches-flash a) ∙ found in
         let seen : not (is_hidden board.secret part.secret a) ≡ true = not_from_false (is_hidden board.secret part.secret a) (sym (matches-overlay a) ∙ off) in
-        pair_gives-pair_of_rights board.flash READ_EXECUTE refl placed.flash kind
+        pair_gives-pair_of_rights board.flash read_execute refl placed.flash kind
         ∙ sym (held-at 0 (flash_piece board part) refl a (and_from (in_range board.flash a) (not (is_hidden board.secret part.secret a)) flash seen) kind);
     own_gives = λ a found kind.
-        pair_gives-pair_of_rights part.own READ_WRITE refl placed.own kind
+        pair_gives-pair_of_rights part.own read_write refl placed.own kind
         ∙ sym (held-at 1 (own_piece part) refl a (sym (matches-own a) ∙ found) kind);
     top_gives = λ a found kind. gives_nothing a found kind ∙ sym (none_hidden a (sym (matches-overlay a) ∙ found) kind);
     plan_gives = each-append (IsHonest (held_by (pieces_of board part owners b))) (grant_pairs part.grants) (page_pairs board.heap owners b) each_grant_pair each_page_pair;

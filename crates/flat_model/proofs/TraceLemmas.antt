@@ -1,6 +1,5 @@
 -- What one more choice does to the log of choices, and what the log of choices says.
-use Rattle.std.proofs.Common.{◌≡◌, ℕ, Bool, true, false, ◌&&◌, List, [], ◌∷◌, ◌++◌, map, refl, sym, ap, ◌∙◌, subst, append_assoc, append-nil}
-use Rattle.std.specs.List.{filter_map}
+use Rattle.std.proofs.Common.{◌≡◌, true, List, [], ◌∷◌, ◌++◌, map, refl, sym, ap, ◌∙◌, append_assoc, append-nil}
 use Rattle.std.proofs.lemmas.Bool.{and_from, and_parts}
 use Rattle.std.proofs.lemmas.List.{map-append}
 use Rattle.std.proofs.lemmas.List.Elements.{filter_map-append}
@@ -9,16 +8,15 @@ use Rattle.flat_model.specs.declared.events.Entry.{Entry}
 use Rattle.flat_model.specs.declared.events.Logged.{Logged}
 use Rattle.flat_model.specs.declared.events.Logged.TheVariants as item
 use Rattle.flat_model.specs.declared.events.UnitLine.{UnitLine}
-use Rattle.flat_model.specs.declared.logs.Log.{Log}
 use Rattle.flat_model.specs.declared.parts.Config.{Config}
 use Rattle.flat_model.specs.declared.states.Flat.{Flat}
 use Rattle.flat_model.specs.Legal.{all_fit}
 use Rattle.flat_model.specs.Log.{Event, choices_of, ends_with_entry, entries_of, entry_of, events_after, events_of, replies_of}
-use Rattle.flat_model.specs.OneLog.{entries_of_run, log_of_choices, woven_items}
-use Rattle.flat_model.specs.Run.{ends_of, opening_state, replies_to_all, state_after_all}
+use Rattle.flat_model.specs.OneLog.{entries_of_run, woven_items}
+use Rattle.flat_model.specs.Run.{replies_to_all, state_after_all}
 use Rattle.flat_model.specs.Step.{reply_to, state_after}
-use Rattle.flat_model.specs.Trace.{World, event_items, opening_world, trace_of, world_after, world_after_all, world_reached}
-use Rattle.flat_model.specs.UnitRun.{lines_of_run, opening_unit, unit_after, unit_lines}
+use Rattle.flat_model.specs.Trace.{World, event_items, trace_of, world_after, world_after_all}
+use Rattle.flat_model.specs.UnitRun.{lines_of_run, unit_after, unit_lines}
 use Rattle.flat_model.specs.Want.{fits}
 
 pub choices_of-append : (xs ys : List Logged) → choices_of (xs ++ ys) ≡ choices_of xs ++ choices_of ys

@@ -1,20 +1,17 @@
 -- What threads want where instructions run that run today, and what then fits.
-use Rattle.std.proofs.Common.{◌≡◌, ℕ, Bool, true, false, ◌&&◌, cond, Option, Some, None, refl, sym, ap, ◌∙◌, subst, nat_lt, length, inl, inr}
+use Rattle.std.proofs.Common.{◌≡◌, ℕ, Bool, true, false, ◌&&◌, cond, Option, Some, None, refl, sym, ap, ◌∙◌, length}
 use Rattle.std.specs.List.{slice_get}
 use Rattle.std.proofs.lemmas.Option.{slice_get_past}
 use Rattle.std.specs.Prelude.{is_none}
-use Rattle.std.proofs.Common.{◌≤◌, arith, ◌<◌}
+use Rattle.std.proofs.Common.{◌≤◌, arith}
 use Rattle.std.proofs.lemmas.Bool.Decides.{nat_tests}
 use Rattle.addr_base.specs.declared.identity.Line.{Line}
 use Rattle.addr_base.specs.declared.identity.ThreadId.{ThreadId}
 use Rattle.addr_base.specs.declared.identity.Ticket.{Ticket}
-use Rattle.flat_model.specs.declared.events.Choice.{Choice}
 use Rattle.flat_model.specs.declared.events.Choice.TheVariants as choice
-use Rattle.flat_model.specs.declared.events.Reply.{Reply}
 use Rattle.flat_model.specs.declared.events.Reply.TheVariants as reply
 use Rattle.flat_model.specs.declared.instructions.Instr.{Instr}
 use Rattle.flat_model.specs.declared.instructions.Instr.TheVariants as instr
-use Rattle.flat_model.specs.declared.events.Want.{Want}
 use Rattle.flat_model.specs.declared.events.Want.TheVariants as want
 use Rattle.flat_model.specs.declared.parts.BoxPart.{BoxPart}
 use Rattle.flat_model.specs.declared.parts.Config.{Config}
@@ -24,10 +21,10 @@ use Rattle.flat_model.specs.declared.states.Shared.{Shared}
 use Rattle.flat_model.specs.declared.states.ThreadState.{ThreadState}
 use Rattle.flat_model.specs.Interrupts.{due_interrupt}
 use Rattle.flat_model.specs.Thread.{is_ready}
-use Rattle.flat_model.specs.Today.{RunsToday, is_run_today, runs_today, thread_runs_today}
+use Rattle.flat_model.specs.Today.{RunsToday, runs_today, thread_runs_today}
 use Rattle.flat_model.specs.Script.{choice_of_thread, choice_by_want}
 use Rattle.flat_model.specs.Step.{fitting_step, rung, step, turn_at}
-use Rattle.flat_model.specs.Want.{fits, is_owned_line, fits_with_room, fits_without_room, is_thread, wants_next, next_instruction, want_at, want_in, want_of, want_of_instruction}
+use Rattle.flat_model.specs.Want.{fits, is_owned_line, is_thread, next_instruction, want_at, want_in, want_of, want_of_instruction}
 use Rattle.flat_model.proofs.TodayLemmas.{list_all-get, program_today}
 
 want-instruction : (cfg : Config) (part : BoxPart) (thread : ThreadPart) (m : Shared) (t : ℕ) (i : Option Instr) →

@@ -1,5 +1,5 @@
 -- The instructions that access memory: `load8` to `store32`, and `exec`.
-use Rattle.std.specs.Prelude.{ℕ, ◌&&◌, Option, Some, None, if◌then◌else◌}
+use Rattle.std.specs.Prelude.{ℕ, Option, Some, None, if◌then◌else◌}
 use Rattle.addr_base.specs.declared.rights.Kind.{Kind}
 use Rattle.addr_base.specs.declared.rights.Kind.TheVariants.{Read, Write, Fetch}
 use Rattle.flat_model.specs.declared.accesses.Access.{Access}

@@ -1,8 +1,5 @@
 -- The list of all calls, in the order in which they were made.
-use Rattle.std.specs.Prelude.{ℕ, ◌+◌, Bool, true, false, ◌&&◌, not, nat_eq, Option, Some, None, List, [], ◌∷◌, ◌++◌, map, find, count_by, if◌then◌else◌, slice_get, slice_index, slice_set}
-use Rattle.std.specs.Option.{option_map_or}
-use Rattle.addr_base.specs.declared.identity.BoxId.{BoxId}
-use Rattle.addr_base.specs.declared.identity.ThreadId.{ThreadId}
+use Rattle.std.specs.Prelude.{ℕ, Bool, true, false, ◌&&◌, not, nat_eq, Option, Some, None, List, map, find, count_by, if◌then◌else◌}
 use Rattle.addr_base.specs.declared.identity.Ticket.{Ticket}
 use Rattle.flat_model.specs.declared.states.Call.{Call}
 use Rattle.flat_model.specs.declared.states.CallState.{CallState}

@@ -1,5 +1,5 @@
 -- Interrupt lines: which are pending, and which is due to a thread.
-use Rattle.std.specs.Prelude.{ℕ, Bool, true, false, ◌&&◌, nat_eq, nat_lt, is_none, is_some, unwrap_or, Option, Some, None, List, [], ◌∷◌, if◌then◌else◌, slice_get}
+use Rattle.std.specs.Prelude.{ℕ, Bool, false, ◌&&◌, nat_eq, nat_lt, is_none, unwrap_or, Option, Some, None, List, [], ◌∷◌, if◌then◌else◌, slice_get}
 use Rattle.std.specs.List.{list_any}
 use Rattle.flat_model.specs.declared.parts.BoxPart.{BoxPart}
 use Rattle.flat_model.specs.declared.parts.IrqPart.{IrqPart}

@@ -1,27 +1,11 @@
 -- The items of a box: flash without the secret range unless it owns it, its own memory, its grants.
 use Rattle.std.specs.Prelude.{ℕ, ◌-◌, Bool, nat_lt, Option, Some, None, List, [], ◌∷◌, ◌++◌, if◌then◌else◌}
 use Rattle.addr_base.specs.declared.ranges.Range.{Range}
-use Rattle.addr_base.specs.declared.rights.Rights.{Rights}
 use Rattle.addr_base.specs.Range.{end_of}
+use Rattle.addr_base.specs.Rights.{read_execute, read_write}
 use Rattle.flat_model.specs.declared.boards.Board.{Board}
 use Rattle.flat_model.specs.declared.parts.BoxPart.{BoxPart}
 use Rattle.flat_model.specs.declared.parts.Item.{Item}
-
--- the right to read, and no other
-abbrev pub read_only : Rights
-read_only = record { bits = 1 }
-
--- read and write
-abbrev pub read_write : Rights
-read_write = record { bits = 3 }
-
--- read and execute
-abbrev pub read_execute : Rights
-read_execute = record { bits = 5 }
-
--- read, write and execute
-abbrev pub all_rights : Rights
-all_rights = record { bits = 7 }
 
 -- a range to read and execute, from one address up to another, where there is something between
 abbrev pub code_between : ℕ → ℕ → List Item

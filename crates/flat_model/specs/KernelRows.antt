@@ -1,12 +1,10 @@
 -- The kernel calls that read or change what the threads share, each a row of its own.
-use Rattle.std.specs.Prelude.{ℕ, ◌+◌, ◌-◌, ◌/◌, ◌%◌, ◌^◌, Bool, true, false, ◌&&◌, nat_eq, unwrap_or, is_some, Option, Some, None, List, [], ◌∷◌, ◌++◌, take, if◌then◌else◌, slice_get, slice_set, bit_and, bit_or, bit_xor}
-use Rattle.addr_base.specs.declared.identity.BoxId.{BoxId}
+use Rattle.std.specs.Prelude.{ℕ, ◌+◌, ◌-◌, ◌/◌, ◌%◌, ◌^◌, Bool, true, false, nat_eq, unwrap_or, Option, Some, None, List, [], ◌∷◌, ◌++◌, take, if◌then◌else◌, slice_get, slice_set, bit_and, bit_or, bit_xor}
 use Rattle.addr_base.specs.declared.identity.Ticket.{Ticket}
 use Rattle.flat_model.specs.declared.actors.Who.{Who}
 use Rattle.flat_model.specs.declared.boards.Board.{Board}
 use Rattle.flat_model.specs.declared.boards.HeapPart.{HeapPart}
 use Rattle.flat_model.specs.declared.events.Reply.TheVariants as reply
-use Rattle.flat_model.specs.declared.parts.BoxPart.{BoxPart}
 use Rattle.flat_model.specs.declared.parts.Config.{Config}
 use Rattle.flat_model.specs.declared.parts.IrqPart.{IrqPart}
 use Rattle.flat_model.specs.declared.parts.Op.{Op}
@@ -20,12 +18,11 @@ use Rattle.flat_model.specs.declared.states.Shared.{Shared}
 use Rattle.flat_model.specs.declared.states.ThreadState.{ThreadState}
 use Rattle.flat_model.specs.Access.{owned_by}
 use Rattle.flat_model.specs.Calls.{done_value, with_collected, with_done}
-use Rattle.flat_model.specs.Cells.{cells_of}
 use Rattle.flat_model.specs.Interrupts.{has_line}
 use Rattle.flat_model.specs.Memory.{put_cells, put_word, word_at}
 use Rattle.flat_model.specs.Outcome.{Outcome, done_row, refused_row, value_row}
 use Rattle.flat_model.specs.Pages.{blank_pages, frames_of, is_bad_count, least_free, may_write_words, table_cells, with_owner}
-use Rattle.flat_model.specs.Thread.{posted, posted_and_waiting, register, resumed, with_status}
+use Rattle.flat_model.specs.Thread.{resumed, with_status}
 
 -- the frames go to the box, their pages are zeroed, and then the table is written
 abbrev pub given_row : Board → ℕ → Shared → ThreadState → ℕ → HeapPart → List ℕ → Outcome

@@ -1,5 +1,5 @@
 -- The legal log: a run of the flat machine, a run of the protection unit, and both say the same.
-use Rattle.std.specs.Prelude.{◌≡◌, ℕ, Bool, true, false, ◌&&◌, not, List, [], ◌∷◌, map, if◌then◌else◌}
+use Rattle.std.specs.Prelude.{◌≡◌, Bool, true, false, ◌&&◌, not, List, [], ◌∷◌, map, if◌then◌else◌}
 use Rattle.std.specs.List.{list_all}
 use Rattle.flat_model.specs.declared.events.Choice.{Choice}
 use Rattle.flat_model.specs.declared.events.Reply.{Reply}
@@ -10,7 +10,7 @@ use Rattle.flat_model.specs.declared.logs.Log.{Log}
 use Rattle.flat_model.specs.declared.parts.Config.{Config}
 use Rattle.flat_model.specs.declared.states.Flat.{Flat}
 use Rattle.flat_model.specs.Decision.{is_granted}
-use Rattle.flat_model.specs.Log.{Event, choices_of, ends_with_entry, entries_of, events_of, replies_of}
+use Rattle.flat_model.specs.Log.{Event, choices_of, ends_with_entry, events_of, replies_of}
 use Rattle.flat_model.specs.Run.{ends_of, opening_state, replies_to_all, state_after_all}
 use Rattle.flat_model.specs.Step.{state_after}
 use Rattle.flat_model.specs.UnitRun.{lines_of_run, opening_unit}

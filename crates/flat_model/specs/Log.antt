@@ -1,8 +1,7 @@
 -- A log: its entries, its events with the unit's lines before them, and what it names.
-use Rattle.std.specs.Prelude.{◌≡◌, ℕ, ◌-◌, Bool, true, false, ◌&&◌, ◌||◌, not, ◌==◌, nat_eq, nat_le, nat_lt, is_some, Option, Some, None, List, [], ◌∷◌, ◌++◌, map, length, take, drop, if◌then◌else◌, slice_get}
+use Rattle.std.specs.Prelude.{◌≡◌, ℕ, Bool, true, false, ◌&&◌, ◌||◌, not, nat_eq, nat_le, nat_lt, Option, Some, None, List, [], ◌∷◌, ◌++◌, map, length, take, drop, if◌then◌else◌}
 use Rattle.std.specs.List.{list_all, filter_map}
 use Rattle.addr_base.specs.declared.identity.BoxId.{BoxId}
-use Rattle.addr_base.specs.declared.identity.ThreadId.{ThreadId}
 use Rattle.addr_base.specs.declared.pairs.Verdict.{Verdict}
 use Rattle.addr_base.specs.declared.pairs.Verdict.TheVariants.{Granted, Denied}
 use Rattle.flat_model.specs.declared.events.Choice.{Choice}

@@ -1,5 +1,5 @@
 -- Where the boxes' own memory lies, and what is left for all (docs/MODEL.md, "Placing").
-use Rattle.std.specs.Prelude.{◌≡◌, ℕ, ◌+◌, ◌-◌, ◌%◌, ◌^◌, ◌<◌, ◌≤◌, Option, Some, None, List, [], ◌∷◌}
+use Rattle.std.specs.Prelude.{◌≡◌, ℕ, ◌+◌, ◌-◌, ◌%◌, ◌<◌, ◌≤◌, Option, Some, None, List, [], ◌∷◌}
 use Rattle.addr_base.specs.declared.ranges.Range.{Range}
 use Rattle.std.specs.Int.{IsPowerOfTwo}
 use Rattle.addr_base.specs.Range.{end_of}

@@ -6,7 +6,7 @@ use Rattle.std.specs.Option.{option_map_or}
 use Rattle.addr_base.specs.declared.identity.BoxId.{BoxId}
 use Rattle.addr_base.specs.declared.pairs.Pair.{Pair}
 use Rattle.addr_base.specs.declared.rights.Kind.{Kind}
-use Rattle.addr_base.specs.declared.rights.Rights.{Rights}
+use Rattle.addr_base.specs.Rights.{read_execute, read_write}
 use Rattle.flat_model.specs.declared.boards.Board.{Board}
 use Rattle.flat_model.specs.declared.boards.HeapPart.{HeapPart}
 use Rattle.flat_model.specs.declared.parts.BoxPart.{BoxPart}
@@ -14,14 +14,6 @@ use Rattle.flat_model.specs.declared.parts.Config.{Config}
 use Rattle.flat_model.specs.declared.parts.Item.{Item}
 use Rattle.flat_model.specs.Cover.{NO_ACCESS, attributes, cover_of, group_pair, pair_of}
 use Rattle.flat_model.specs.Decision.{matches, pair_gives}
-
--- the rights to read and to execute, and no other
-abbrev pub READ_EXECUTE : Rights
-READ_EXECUTE = record { bits = 5 }
-
--- the rights to read and to write, and no other
-abbrev pub READ_WRITE : Rights
-READ_WRITE = record { bits = 3 }
 
 -- how many regions the unit has
 abbrev pub REGIONS : ℕ
@@ -37,11 +29,11 @@ slots_from regions flash own top = flash ∷ own ∷ (replicate (regions - 3) no
 
 -- all of flash, to be read and executed
 abbrev pub flash_pair : Board → Pair
-flash_pair board = pair_of board.flash (attributes READ_EXECUTE)
+flash_pair board = pair_of board.flash (attributes read_execute)
 
 -- the own memory of a box, to be read and written
 abbrev pub own_pair : BoxPart → Pair
-own_pair part = pair_of part.own (attributes READ_WRITE)
+own_pair part = pair_of part.own (attributes read_write)
 
 -- the region that hides the secret range, disabled where the box owns it or there is none
 abbrev pub overlay_pair : Board → BoxPart → Pair

@@ -1,5 +1,5 @@
 -- A run of the flat machine: the replies to a list of choices, and the last state.
-use Rattle.std.specs.Prelude.{ℕ, Option, None, false, List, [], ◌∷◌, map, length, replicate}
+use Rattle.std.specs.Prelude.{ℕ, None, false, List, [], ◌∷◌, map, length, replicate}
 use Rattle.std.specs.Option.{option_map_or}
 use Rattle.flat_model.specs.declared.events.Choice.{Choice}
 use Rattle.flat_model.specs.declared.events.Reply.{Reply}

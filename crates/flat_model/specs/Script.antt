@@ -1,5 +1,5 @@
 -- What the words of a script stand for, in the state reached.
-use Rattle.std.specs.Prelude.{ℕ, true, nat_lt, Option, Some, None, List, [], ◌∷◌}
+use Rattle.std.specs.Prelude.{true, nat_lt, Option, Some, None, List, [], ◌∷◌}
 use Rattle.addr_base.specs.declared.identity.ThreadId.{ThreadId}
 use Rattle.flat_model.specs.declared.events.Choice.{Choice}
 use Rattle.flat_model.specs.declared.events.Choice.TheVariants as choice

@@ -1,25 +1,23 @@
 -- A sound configuration: what every accepted input gives, and every run stands on.
-use Rattle.std.specs.Prelude.{◌≡◌, ℕ, ◌+◌, ◌*◌, ◌%◌, ◌<◌, ◌≤◌, Bool, true, false, ◌&&◌, ◌||◌, not, ◌⊎◌, nat_eq, nat_le, IfSome, Option, Some, None, List, [], ◌∷◌, ◌++◌, map, length, replicate, sum, sum_by, count_by}
+use Rattle.std.specs.Prelude.{◌≡◌, ℕ, ◌+◌, ◌*◌, ◌%◌, ◌<◌, ◌≤◌, Bool, true, false, ◌||◌, ◌⊎◌, nat_eq, IfSome, List, [], ◌∷◌, ◌++◌, map, length, replicate, sum_by, count_by}
 use Rattle.std.specs.Int.{IsPowerOfTwo}
 use Rattle.std.specs.List.{AllByRecursion, flat_map, list_any}
 use Rattle.addr_base.specs.declared.identity.BoxId.{BoxId}
-use Rattle.addr_base.specs.declared.identity.Line.{Line}
 use Rattle.addr_base.specs.declared.ranges.Range.{Range}
 use Rattle.addr_base.specs.declared.rights.Rights.{Rights}
 use Rattle.addr_base.specs.Range.{ADDRESS_END, end_of, in_range, holds_bytes}
+use Rattle.addr_base.specs.Rights.{all_rights, read_execute, read_only, read_write}
 use Rattle.flat_model.specs.declared.boards.Board.{Board}
 use Rattle.flat_model.specs.declared.boards.HeapPart.{HeapPart}
 use Rattle.flat_model.specs.declared.boards.Word.{Word}
 use Rattle.flat_model.specs.declared.parts.BoxPart.{BoxPart}
 use Rattle.flat_model.specs.declared.parts.Config.{Config}
-use Rattle.flat_model.specs.declared.parts.DevicePart.{DevicePart}
 use Rattle.flat_model.specs.declared.parts.Item.{Item}
 use Rattle.flat_model.specs.declared.parts.RegGate.{RegGate}
-use Rattle.flat_model.specs.declared.parts.RpcGate.{RpcGate}
 use Rattle.flat_model.specs.declared.parts.ScriptWord.{ScriptWord}
 use Rattle.flat_model.specs.declared.parts.ScriptWord.TheVariants as word
 use Rattle.flat_model.specs.declared.parts.ThreadPart.{ThreadPart}
-use Rattle.flat_model.specs.Items.{all_rights, items_of, read_execute, read_only, read_write}
+use Rattle.flat_model.specs.Items.{items_of}
 use Rattle.flat_model.specs.Names.{AreDistinctNames, is_name}
 use Rattle.flat_model.specs.Operands.{IsValidInstr}
 use Rattle.flat_model.specs.Placing.{ArePlaced, common_range, limit_of, placed_end}

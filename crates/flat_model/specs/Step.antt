@@ -1,11 +1,10 @@
 -- One step of the flat machine: the state after a choice, and its reply.
-use Rattle.std.specs.Prelude.{ℕ, Bool, true, false, ◌&&◌, not, nat_eq, is_none, Option, Some, None, List, [], ◌∷◌, if◌then◌else◌, slice_get, slice_set}
+use Rattle.std.specs.Prelude.{ℕ, Bool, true, false, ◌&&◌, not, nat_eq, Option, Some, None, if◌then◌else◌, slice_get, slice_set}
 use Rattle.std.specs.Option.{option_map_or}
 use Rattle.addr_base.specs.declared.identity.BoxId.{BoxId}
 use Rattle.addr_base.specs.declared.identity.ThreadId.{ThreadId}
 use Rattle.addr_base.specs.declared.identity.Ticket.{Ticket}
 use Rattle.flat_model.specs.declared.accesses.Access.{Access}
-use Rattle.flat_model.specs.declared.actors.Who.{Who}
 use Rattle.flat_model.specs.declared.events.Choice.{Choice}
 use Rattle.flat_model.specs.declared.events.Choice.TheVariants as choice
 use Rattle.flat_model.specs.declared.events.Reply.{Reply}
@@ -22,7 +21,7 @@ use Rattle.flat_model.specs.declared.states.Shared.{Shared}
 use Rattle.flat_model.specs.declared.states.ThreadState.{ThreadState}
 use Rattle.flat_model.specs.AccessRows.{access_of, aligned_access}
 use Rattle.flat_model.specs.Calls.{oldest_posted_by, with_started}
-use Rattle.flat_model.specs.Outcome.{Outcome, by_itself, refused_row}
+use Rattle.flat_model.specs.Outcome.{Outcome, refused_row}
 use Rattle.flat_model.specs.Thread.{begun, counted}
 use Rattle.flat_model.specs.Turn.{turn_row, within_budget}
 use Rattle.flat_model.specs.Want.{fits, next_instruction}

@@ -1,5 +1,5 @@
 -- The text of a log (docs/LOG.md).
-use Rattle.std.specs.Prelude.{ℕ, zero, suc, ◌+◌, ◌-◌, ◌/◌, ◌%◌, Bool, Option, Some, None, List, [], ◌∷◌, ◌++◌, map, take, codes, nat_lt, if◌then◌else◌, slice_get, slice_index}
+use Rattle.std.specs.Prelude.{ℕ, zero, suc, ◌+◌, ◌-◌, ◌/◌, ◌%◌, List, [], ◌∷◌, ◌++◌, map, take, codes, nat_lt, if◌then◌else◌, slice_get}
 use Rattle.std.specs.Fmt.{decimal}
 use Rattle.std.specs.List.{flat_map, join_with_byte}
 use Rattle.std.specs.Option.{option_map_or}

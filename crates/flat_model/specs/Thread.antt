@@ -1,12 +1,8 @@
 -- Words on one thread alone.
-use Rattle.std.specs.Prelude.{ℕ, ◌+◌, ◌-◌, ◌%◌, ◌^◌, Bool, true, false, nat_le, Option, Some, None, List, [], ◌∷◌, if◌then◌else◌, slice_index, slice_set, take}
-use Rattle.flat_model.specs.declared.events.Flaw.{Flaw}
+use Rattle.std.specs.Prelude.{ℕ, ◌+◌, ◌-◌, ◌%◌, ◌^◌, Bool, true, false, nat_le, Some, None, List, [], ◌∷◌, if◌then◌else◌, slice_index, slice_set}
 use Rattle.flat_model.specs.declared.events.Mode.{Mode}
 use Rattle.flat_model.specs.declared.events.Mode.TheVariants as mode
-use Rattle.flat_model.specs.declared.events.Reply.{Reply}
-use Rattle.flat_model.specs.declared.events.Reply.TheVariants as reply
 use Rattle.flat_model.specs.declared.events.Started.{Started}
-use Rattle.flat_model.specs.declared.states.Awaited.{Awaited}
 use Rattle.flat_model.specs.declared.states.Context.{Context}
 use Rattle.flat_model.specs.declared.states.ThreadState.{ThreadState}
 

@@ -1,7 +1,5 @@
 -- A turn of a thread, in the order of its points (docs/PROGRAMS.md, "A turn").
-use Rattle.std.specs.Prelude.{ℕ, ◌-◌, Bool, true, false, ◌&&◌, nat_eq, unwrap_or, Option, Some, None, List, if◌then◌else◌, slice_get, slice_set}
-use Rattle.addr_base.specs.declared.identity.BoxId.{BoxId}
-use Rattle.addr_base.specs.declared.identity.ThreadId.{ThreadId}
+use Rattle.std.specs.Prelude.{ℕ, ◌-◌, Bool, true, false, nat_eq, unwrap_or, Option, Some, None, if◌then◌else◌, slice_get, slice_set}
 use Rattle.addr_base.specs.declared.identity.Ticket.{Ticket}
 use Rattle.flat_model.specs.declared.accesses.Access.{Access}
 use Rattle.flat_model.specs.declared.actors.Who.{Who}

@@ -1,8 +1,6 @@
 -- What a thread's next event is, and which choices fit.
-use Rattle.std.specs.Prelude.{ℕ, ◌+◌, Bool, true, false, ◌&&◌, ◌||◌, not, nat_eq, nat_le, nat_lt, is_none, is_some, Option, Some, None, List, [], ◌∷◌, length, count_by, if◌then◌else◌, slice_get}
+use Rattle.std.specs.Prelude.{ℕ, ◌+◌, Bool, true, false, ◌&&◌, not, nat_eq, nat_le, nat_lt, is_none, Option, Some, None, List, [], ◌∷◌, length, if◌then◌else◌, slice_get}
 use Rattle.std.specs.List.{list_any}
-use Rattle.std.specs.Option.{option_map_or, option_and_then}
-use Rattle.addr_base.specs.declared.identity.BoxId.{BoxId}
 use Rattle.addr_base.specs.declared.identity.ThreadId.{ThreadId}
 use Rattle.flat_model.specs.declared.events.Choice.{Choice}
 use Rattle.flat_model.specs.declared.events.Choice.TheVariants as choice

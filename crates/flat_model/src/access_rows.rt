@@ -6,9 +6,9 @@ use crate::access_rule::{is_aligned, may_access};
 use crate::accesses::Access;
 use crate::banks::{put_word, word_at};
 use crate::boards::Board;
-use crate::events::{Flaw, Mode, Reply};
+use crate::events::{Flaw, Reply};
 use crate::instructions::Instr;
-use crate::local::{move_on, register, set_register};
+use crate::local::{fault, move_on, register, set_register};
 use crate::parts::Config;
 use crate::states::{Shared, ThreadState};
 use addr_base::{BoxId, Kind};
@@ -48,8 +48,7 @@ pub(crate) fn fault_row(shared: &mut Shared, thread: &mut ThreadState, why: Flaw
         ≡ record { shared = shared.new; thread = thread.new; reply = result } }
 {
     let _ = &shared;
-    thread.mode = Mode::Faulted;
-    Reply::Fault { why, at }
+    fault(thread, why, at)
 }
 
 // The bytes at the address go into the register.
@@ -109,8 +108,8 @@ fn performed_row(
     }
 }
 
-// How a denial of this kind is called.
-fn violation_of(kind: Kind) -> Flaw
+/// How a denial of this kind is called.
+pub fn violation_of(kind: Kind) -> Flaw
     ensures { result ≡ spec.violation_of kind }
 {
     match kind {

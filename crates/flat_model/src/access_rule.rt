@@ -8,7 +8,7 @@ use crate::parts::{Config, Item};
 use addr_base::{BoxId, Kind, Range};
 
 /// Whether an address is a multiple of the size of the access.
-pub(crate) fn is_aligned(a: u64, n: u8) -> bool
+pub fn is_aligned(a: u64, n: u8) -> bool
     requires { 0 < n }
     ensures { result ≡ spec.is_aligned a n }
 {
@@ -103,7 +103,7 @@ fn heap_holds(heap: &Option<HeapPart>, owners: &[Option<BoxId>], home: u8, a: u6
 }
 
 /// Whether the box may access the `n` bytes from an address in this way.
-pub(crate) fn may_access(
+pub fn may_access(
     cfg: &Config,
     owners: &[Option<BoxId>],
     home: u8,

@@ -61,7 +61,7 @@ fn saved_context(lines: &Lines, home: BoxId) -> Option<Context>
 }
 
 /// The interrupt that is due to a ready thread of the box.
-pub(crate) fn due_interrupt(
+pub fn due_interrupt(
     lines: &Lines,
     part: &BoxPart,
     home: BoxId,

@@ -20,11 +20,11 @@ mod refusals;
 mod states;
 mod step;
 mod texts;
-mod touch;
 mod turn;
 mod waiting;
 
-pub use access_rows::access_of;
+pub use access_rows::{access_of, violation_of};
+pub use access_rule::{is_aligned, may_access};
 pub use accesses::Access;
 pub use actors::Who;
 pub use addr_base::{
@@ -38,15 +38,17 @@ pub use events::{
 };
 pub use flat_state::{FlatState, flat_step};
 pub use instructions::{AssembleErr, BadLine, Instr, Why};
+pub use interrupts::due_interrupt;
 pub use lists::{Items, Text};
+pub use local::{fault, local_row, move_on, register, set_register};
 pub use logs::{End, Log, LogErr};
-pub use opening::opening_state;
+pub use opening::{opening_lines, opening_thread, page_count};
 pub use parts::{
     BoxPart, Config, DevicePart, IrqPart, Item, Op, RegGate, RpcGate, ScriptWord, ThreadPart,
 };
 pub use refusals::{ConfigErr, Key, NotNext, PageErr, Refused, Spot};
 pub use states::{Awaited, Call, CallState, Context, Flat, Lines, Memory, Shared, ThreadState};
-pub use step::{is_owned_line, program_of, ring, thread_of, turn_at};
+pub use step::program_of;
 pub use texts::{BoxText, GateTexts, GrantText, RegText, Round, RpcText, ThreadText};
-pub use touch::touch_at;
-pub use turn::has_ended;
+pub use turn::{bound, has_ended, instruction_at, is_waiting};
+pub use waiting::{collect, open_call, result_of, time_out, wake};

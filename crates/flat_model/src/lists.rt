@@ -1,5 +1,7 @@
-ghost use Rattle.std.specs.Prelude.{◌≡◌, ◌<◌, length, slice_set, string_bytes};
+ghost use Rattle.std.specs.Prelude.{◌≡◌, ◌<◌, IfOk, length, replicate, slice_set, string_bytes};
 
+use addr_base::OutOfMemory;
+use std::alloc::Global;
 use std::marker::Model;
 
 /// A list of items over a `Vec`, which contracts see as the list alone.
@@ -58,6 +60,18 @@ impl<T> Items<T> {
 }
 
 impl<T: Copy> Items<T> {
+    /// The list of `n` copies of a value.
+    #[tactic(auto, using(crate::proofs::Copies::replicate_more))]
+    pub fn filled(alloc: Global, value: T, n: usize) -> Result<Items<T>, OutOfMemory>
+        ensures { IfOk result (λ items. items ≡ replicate n value) }
+    {
+        let mut items = Vec::with_capacity(alloc, n)?;
+        for _ in 0..n {
+            items.push(value)?;
+        }
+        Ok(Items { items })
+    }
+
     /// Puts a value in the place of the element at `index`.
     pub fn set(&mut self, index: usize, value: T)
         requires { index < length self.old }

@@ -1,14 +1,15 @@
 ghost use Rattle.std.specs.Prelude.{◌≡◌, ℕ, ◌<◌, ◌≤◌, None, Some, MatchOption, slice_set};
+ghost use Rattle.flat_model.specs.declared.events.Reply.TheVariants as reply;
 ghost use Rattle.flat_model.specs.Local as spec;
 ghost use Rattle.flat_model.specs.Thread as thread_words;
 
-use crate::events::{Mode, Reply};
+use crate::events::{Flaw, Mode, Reply};
 use crate::instructions::Instr;
 use crate::states::ThreadState;
 use addr_base::BoxId;
 
 /// What a register holds.
-pub(crate) fn register(thread: &ThreadState, r: u8) -> u32
+pub fn register(thread: &ThreadState, r: u8) -> u32
     ensures { result ≡ thread_words.register thread.now r }
 {
     thread.regs.get(r as usize).copied().unwrap_or(0)
@@ -16,7 +17,7 @@ pub(crate) fn register(thread: &ThreadState, r: u8) -> u32
 
 /// Puts a value into a register.
 #[tactic(auto, using(std::proofs::lemmas::List::set_past))]
-pub(crate) fn set_register(thread: &mut ThreadState, r: u8, value: u32)
+pub fn set_register(thread: &mut ThreadState, r: u8, value: u32)
     ensures { thread.new ≡ thread_words.with_register thread.old r value }
 {
     if r < 8 {
@@ -25,7 +26,7 @@ pub(crate) fn set_register(thread: &mut ThreadState, r: u8, value: u32)
 }
 
 /// Moves the thread to its next place.
-pub(crate) fn move_on(thread: &mut ThreadState)
+pub fn move_on(thread: &mut ThreadState)
     ensures { thread.new ≡ thread_words.moved thread.old }
 {
     thread.pc = thread.pc.wrapping_add(1);
@@ -46,6 +47,15 @@ pub(crate) fn give_status(thread: &mut ThreadState, status: u8)
 {
     set_register(thread, 7, status as u32);
     move_on(thread);
+}
+
+/// Stops the thread with a fault: no register changes.
+pub fn fault(thread: &mut ThreadState, why: Flaw, at: u32) -> Reply
+    ensures thread { thread.new ≡ thread_words.faulted thread.old }
+    ensures reply { result ≡ reply.Fault why at }
+{
+    thread.mode = Mode::Faulted;
+    Reply::Fault { why, at }
 }
 
 // Puts a value into a register and moves on.
@@ -94,7 +104,7 @@ fn halt_row(thread: &mut ThreadState) -> Reply
 }
 
 /// What an instruction does that reads and changes one thread alone, if it is one.
-pub(crate) fn local_row(thread: &mut ThreadState, home: BoxId, instr: Instr) -> Option<Reply>
+pub fn local_row(thread: &mut ThreadState, home: BoxId, instr: Instr) -> Option<Reply>
     ensures { MatchOption result
         ((thread.new ≡ thread.old) × (spec.local_row thread.old home.0 instr ≡ None))
         (λ reply. spec.local_row thread.old home.0 instr ≡ Some (thread.new, reply)) }

@@ -16,25 +16,13 @@ use std::alloc::Global;
 // How many interrupt lines there are.
 const LINES: usize = 64;
 
-// A list of one value.
-#[tactic(auto, using(crate::proofs::Copies::replicate_more))]
-fn filled<T: Copy>(alloc: Global, value: T, n: usize) -> Result<Items<T>, OutOfMemory>
-    ensures { IfOk result (λ items. items ≡ replicate n value) }
-{
-    let mut items = Vec::with_capacity(alloc, n)?;
-    for _ in 0..n {
-        items.push(value)?;
-    }
-    Ok(Items::from_vec(items))
-}
-
 // Memory of zero bytes.
 fn blank_memory(alloc: Global, board: &Board) -> Result<Memory, OutOfMemory>
     ensures { IfOk result (λ memory. memory ≡ memory_words.blank_memory board.now) }
 {
-    let flash = filled(alloc, 0, board.flash.len as usize)?;
-    let sram = filled(alloc, 0, board.sram.len as usize)?;
-    let peripherals = filled(alloc, 0, board.peripherals.len as usize)?;
+    let flash = Items::filled(alloc, 0, board.flash.len as usize)?;
+    let sram = Items::filled(alloc, 0, board.sram.len as usize)?;
+    let peripherals = Items::filled(alloc, 0, board.peripherals.len as usize)?;
     Ok(Memory {
         flash,
         sram,
@@ -51,8 +39,8 @@ fn write_words(board: &Board, memory: &mut Memory)
     }
 }
 
-/// Memory as it is at the start.
-pub(crate) fn opening_memory(alloc: Global, board: &Board) -> Result<Memory, OutOfMemory>
+// Memory as it is at the start.
+fn opening_memory(alloc: Global, board: &Board) -> Result<Memory, OutOfMemory>
     ensures { IfOk result (λ memory. memory ≡ memory_words.opening_memory board.now) }
 {
     let mut memory = blank_memory(alloc, board)?;
@@ -60,8 +48,8 @@ pub(crate) fn opening_memory(alloc: Global, board: &Board) -> Result<Memory, Out
     Ok(memory)
 }
 
-// How many pages the heap has.
-fn page_count(heap: &Option<HeapPart>) -> u32
+/// How many pages the heap has, or 0 where there is none.
+pub fn page_count(heap: &Option<HeapPart>) -> u32
     ensures { result ≡ option_map_or (λ heap. heap.count) heap.now 0 }
 {
     match heap {
@@ -70,8 +58,8 @@ fn page_count(heap: &Option<HeapPart>) -> u32
     }
 }
 
-// A thread as it is at the start.
-fn opening_thread() -> ThreadState
+/// A thread as it is at the start.
+pub fn opening_thread() -> ThreadState
     ensures { result ≡ thread_words.opening_thread }
 {
     ThreadState {
@@ -84,17 +72,17 @@ fn opening_thread() -> ThreadState
     }
 }
 
-// The interrupt lines of so many boxes as they are at the start.
-fn opening_lines(alloc: Global, boxes: usize) -> Result<Lines, OutOfMemory>
+/// The interrupt lines of so many boxes as they are at the start.
+pub fn opening_lines(alloc: Global, boxes: usize) -> Result<Lines, OutOfMemory>
     ensures { IfOk result (λ lines. lines ≡ record {
       latched = replicate 64 false;
       enabled = replicate 64 false;
       saved = replicate boxes None;
     }) }
 {
-    let latched = filled(alloc, false, LINES)?;
-    let enabled = filled(alloc, false, LINES)?;
-    let saved = filled(alloc, None, boxes)?;
+    let latched = Items::filled(alloc, false, LINES)?;
+    let enabled = Items::filled(alloc, false, LINES)?;
+    let saved = Items::filled(alloc, None, boxes)?;
     Ok(Lines {
         latched,
         enabled,
@@ -104,15 +92,15 @@ fn opening_lines(alloc: Global, boxes: usize) -> Result<Lines, OutOfMemory>
 
 /// The flat machine as it is at the start.
 #[tactic(auto, unfolding(crate::specs::Run::opening_state))]
-pub fn opening_state(alloc: Global, cfg: &Config) -> Result<Flat, OutOfMemory>
+pub(crate) fn opening_state(alloc: Global, cfg: &Config) -> Result<Flat, OutOfMemory>
     ensures { IfOk result (λ flat. flat ≡ spec.opening_state cfg.now) }
 {
     let memory = opening_memory(alloc, &cfg.board)?;
-    let owners = filled(alloc, None, page_count(&cfg.board.heap) as usize)?;
+    let owners = Items::filled(alloc, None, page_count(&cfg.board.heap) as usize)?;
     let calls = Items::from_vec(Vec::new(alloc));
-    let serving = filled(alloc, None, cfg.boxes.len())?;
+    let serving = Items::filled(alloc, None, cfg.boxes.len())?;
     let lines = opening_lines(alloc, cfg.boxes.len())?;
-    let threads = filled(alloc, opening_thread(), cfg.threads.len())?;
+    let threads = Items::filled(alloc, opening_thread(), cfg.threads.len())?;
     let shared = Shared {
         memory,
         owners,

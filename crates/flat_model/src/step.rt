@@ -50,15 +50,15 @@ pub fn program_of(cfg: &Config, t: ThreadId) -> Option<&ThreadPart>
     cfg.threads.as_slice().get(t.0 as usize)
 }
 
-/// The thread with this number.
-pub fn thread_of(flat: &Flat, t: ThreadId) -> Option<ThreadState>
+// The thread with this number.
+fn thread_of(flat: &Flat, t: ThreadId) -> Option<ThreadState>
     ensures { result ≡ slice_get flat.now.threads t.0 }
 {
     flat.threads.as_slice().get(t.0 as usize).copied()
 }
 
 /// A turn of a thread, where there is one.
-pub fn turn_at(cfg: &Config, flat: &mut Flat, t: ThreadId, room: bool) -> Reply
+pub(crate) fn turn_at(cfg: &Config, flat: &mut Flat, t: ThreadId, room: bool) -> Reply
     requires today { RunsToday cfg.now }
     requires steps { ForSome (slice_get flat.old.threads t.0) CanStep }
     ensures { spec.turn_at cfg.now flat.old t room
@@ -91,14 +91,14 @@ fn some_has_line(line: Line, boxes: &[BoxPart]) -> bool
 }
 
 /// Whether some box owns the line.
-pub fn is_owned_line(cfg: &Config, line: Line) -> bool
+pub(crate) fn is_owned_line(cfg: &Config, line: Line) -> bool
     ensures { result ≡ want_words.is_owned_line cfg.now line.0 }
 {
     some_has_line(line, cfg.boxes.as_slice())
 }
 
 /// Latches a line.
-pub fn ring(flat: &mut Flat, line: Line)
+pub(crate) fn ring(flat: &mut Flat, line: Line)
     ensures { flat.new ≡ spec.rung flat.old line.0 }
 {
     flat.shared.lines.latched.put(line.0 as usize, true);

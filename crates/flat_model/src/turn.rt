@@ -41,8 +41,8 @@ fn instruction_row(
     access_row(cfg, who.home, shared, thread, access)
 }
 
-// Whether the thread waits for a call.
-fn is_waiting(mode: Mode) -> bool
+/// Whether the thread waits for a call.
+pub fn is_waiting(mode: Mode) -> bool
     ensures { result ≡ thread_words.is_waiting mode }
 {
     match mode {
@@ -61,8 +61,8 @@ pub fn has_ended(thread: &ThreadState) -> bool
     }
 }
 
-// The instruction at a place of the thread's program.
-pub(crate) fn instruction_at(program: &ThreadPart, place: u32) -> Option<Instr>
+/// The instruction at a place of the thread's program, if there is one.
+pub fn instruction_at(program: &ThreadPart, place: u32) -> Option<Instr>
     ensures { result ≡ slice_get program.now.program place }
 {
     program.program.as_slice().get(place as usize).copied()
@@ -111,8 +111,8 @@ fn acting_row(
     }
 }
 
-// Spends the thread where its steps are at its budget and it did not stop by itself.
-fn bound(thread: &mut ThreadState, budget: u32)
+/// Spends the thread where its steps are at its budget and it did not stop by itself.
+pub fn bound(thread: &mut ThreadState, budget: u32)
     ensures { thread.new ≡ thread_words.bounded budget thread.old }
 {
     let stopped = match thread.mode {

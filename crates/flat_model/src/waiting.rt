@@ -34,8 +34,8 @@ fn is_open_call(ticket: Ticket, call: &Call) -> bool
     same_ticket(ticket, call.ticket) && !is_collected(call.state)
 }
 
-// The call of the ticket that is not collected.
-fn open_call(ticket: Ticket, calls: &[Call]) -> Option<Call>
+/// The call of the ticket that is not collected, if there is one.
+pub fn open_call(ticket: Ticket, calls: &[Call]) -> Option<Call>
     ensures { result ≡ calls_words.open_call ticket calls.now }
 {
     for call in calls {
@@ -46,8 +46,8 @@ fn open_call(ticket: Ticket, calls: &[Call]) -> Option<Call>
     None
 }
 
-// The result of a call that is done.
-fn result_of(call: Option<Call>) -> Option<u32>
+/// The result of a call that is done.
+pub fn result_of(call: Option<Call>) -> Option<u32>
     ensures { result ≡ spec.result_of call }
 {
     match call {
@@ -73,8 +73,8 @@ fn collected(ticket: Ticket, call: Call) -> Call
     }
 }
 
-// Notes that the ticket's result was collected.
-fn collect(ticket: Ticket, calls: &mut Items<Call>)
+/// Notes that the ticket's result was collected.
+pub fn collect(ticket: Ticket, calls: &mut Items<Call>)
     ensures { calls.new ≡ calls_words.with_collected ticket calls.old }
 {
     for index in 0..calls.len() {
@@ -83,8 +83,8 @@ fn collect(ticket: Ticket, calls: &mut Items<Call>)
     }
 }
 
-// The thread after the result of the call that it waited for.
-fn wake(thread: &mut ThreadState, value: u32)
+/// The thread after the result of the call that it waited for.
+pub fn wake(thread: &mut ThreadState, value: u32)
     ensures { thread.new ≡ thread_words.woken thread.old value }
 {
     give_result(thread, 0, value);
@@ -92,8 +92,8 @@ fn wake(thread: &mut ThreadState, value: u32)
     thread.awaited = None;
 }
 
-// The thread after its last look.
-fn time_out(thread: &mut ThreadState, seq: u32)
+/// The thread after its last look.
+pub fn time_out(thread: &mut ThreadState, seq: u32)
     ensures { thread.new ≡ thread_words.timed_out thread.old seq }
 {
     set_register(thread, 0, seq);

@@ -40,7 +40,7 @@ use Rattle.flat_model.specs.Trace.{World, event_items, opening_world, trace_of, 
 use Rattle.flat_model.specs.Turn.{turn_row}
 use Rattle.flat_model.specs.UnitRun.{UnitState, access_line, access_lines, acting_box, entered, is_last, lines_of_event, rotate_lines, rotated, rotating_pair, switch_lines, unit_lines}
 use Rattle.flat_model.specs.Want.{fits, is_thread}
-use Rattle.flat_model.proofs.Agreement.{IsWorldReady-reached}
+use Rattle.flat_model.proofs.ReadyWorlds.{IsWorldReady-reached}
 use Rattle.flat_model.proofs.Budgets.{turn_row-within}
 use Rattle.flat_model.proofs.Elements.{slice_get_some}
 use Rattle.flat_model.proofs.KeptSteps.{can-step, get-slice_set, home-there, left-turn, steps_left-set}

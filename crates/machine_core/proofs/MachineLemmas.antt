@@ -26,7 +26,8 @@ use Rattle.flat_model.specs.Thread.{has_ended, opening_thread}
 use Rattle.flat_model.specs.Today.{RunsToday}
 use Rattle.flat_model.specs.Trace.{World, event_items, opening_world, trace_of, world_after, world_reached}
 use Rattle.flat_model.specs.UnitRun.{UnitState, lines_of_run, opening_unit}
-use Rattle.flat_model.proofs.Agreement.{IsWorldReady-opening, trace-agrees}
+use Rattle.flat_model.proofs.Agreement.{trace-agrees}
+use Rattle.flat_model.proofs.ReadyWorlds.{IsWorldReady-opening}
 use Rattle.flat_model.proofs.Elements.{each-get}
 use Rattle.flat_model.proofs.KeptSteps.{get-replicate}
 use Rattle.flat_model.proofs.TraceLemmas.{ends_with_entry-trace, flat_after_all, lines_of-trace, replies_of-trace, trace_of-woven}

@@ -4,11 +4,12 @@ use Rattle.std.specs.Prelude.{IfSome, if◌then◌else◌}
 use Rattle.std.specs.List.{AllByRecursion}
 use Rattle.std.specs.Option.{option_map_or}
 use Rattle.addr_base.specs.declared.ranges.Range.{Range}
+use Rattle.addr_base.specs.Rights.{read_execute, read_write}
 use Rattle.flat_model.specs.declared.boards.HeapPart.{HeapPart}
 use Rattle.flat_model.specs.declared.parts.BoxPart.{BoxPart}
 use Rattle.flat_model.specs.declared.parts.Config.{Config}
 use Rattle.flat_model.specs.Cover.{NO_ACCESS, cover_of, pair_of}
-use Rattle.flat_model.specs.Plan.{READ_EXECUTE, READ_WRITE, no_pair}
+use Rattle.flat_model.specs.Plan.{no_pair}
 use Rattle.flat_model.specs.Sound as sound
 use Rattle.flat_model.proofs.Covers.{OfCover, each-cover_of, is_region-hidden, is_region-pair_of_rights}
 use Rattle.flat_model.proofs.Elements.{each-flat_map, each-from_get, each-get, each-map, each_weaker}
@@ -27,8 +28,8 @@ overlay_known flash (Some s) false it = inr (is_region-hidden s it.block)
 -- the regions of a placed box are valid
 pub IsHome-placed : (cfg : Config) (part : BoxPart) → IsPlaced cfg.board part → IsHome (home_pairs cfg part)
 IsHome-placed cfg part placed = record {
-  flash = inr (is_region-pair_of_rights cfg.board.flash READ_EXECUTE placed.flash);
-  own = inr (is_region-pair_of_rights part.own READ_WRITE placed.own);
+  flash = inr (is_region-pair_of_rights cfg.board.flash read_execute placed.flash);
+  own = inr (is_region-pair_of_rights part.own read_write placed.own);
   overlay = overlay_known cfg.board.flash cfg.board.secret part.secret placed.secret;
   grants = each-flat_map (λ g. cover_of g.range g.rights) IsTiledGrant IsKnown
       (λ g it. each_weaker (OfCover g.range g.rights) IsKnown (λ p of. inr of.valid) (cover_of g.range g.rights) (each-cover_of g.range g.rights it.tiled it.reads))

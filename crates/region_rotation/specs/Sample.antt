@@ -1,9 +1,9 @@
 -- Inner: no public contract cites this. It is a configuration of the tests.
 use Rattle.std.specs.Prelude.{false, None, [], ◌∷◌}
+use Rattle.addr_base.specs.Rights.{read_execute, read_write}
 use Rattle.flat_model.specs.declared.instructions.Instr.TheVariants as instr
 use Rattle.flat_model.specs.declared.parts.Config.{Config}
 use Rattle.flat_model.specs.declared.parts.Item.{Item}
-use Rattle.flat_model.specs.Items.{read_execute, read_write}
 
 -- seven blocks of 32 bytes of the peripherals
 abbrev pub sample_grant : Item

@@ -1,8 +1,8 @@
 -- Inner: no public contract cites this. It is a configuration of the tests.
 use Rattle.std.specs.Prelude.{false, None, [], ◌∷◌}
+use Rattle.addr_base.specs.Rights.{read_execute, read_write}
 use Rattle.flat_model.specs.declared.instructions.Instr.TheVariants as instr
 use Rattle.flat_model.specs.declared.parts.Config.{Config}
-use Rattle.flat_model.specs.Items.{read_execute, read_write}
 
 -- one box with one thread, on a board without a secret range, words and a heap
 abbrev pub sample_config : Config

@@ -15,6 +15,7 @@ use flat_model::{
     Ticket, UnitLine, Verdict,
 };
 
+/// The box of a thread, or box 0 where there is no such thread.
 pub fn home_of(config: &Config, t: ThreadId) -> BoxId
     ensures { result ≡ home_of config.now t.0 }
 {
@@ -44,6 +45,7 @@ pub fn push_name(config: &Config, b: BoxId, page: &mut Page)
     page.push_bytes(box_name(config, b));
 }
 
+/// The number of a box's first thread, or 0 where there is no such box.
 pub fn first_thread(config: &Config, b: BoxId) -> u32
     ensures { result ≡ first_thread config.now b.0 }
 {

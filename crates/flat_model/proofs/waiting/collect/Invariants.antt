@@ -1,4 +1,4 @@
-use Rattle.std.proofs.Common.{◌≡◌, ◌++◌, drop, take, length}
+use Rattle.std.proofs.Common.{◌≡◌, ◌++◌, drop, take}
 use Rattle.flat_model.specs.Calls as calls_words
 use Rattle.flat_model.proofs.waiting.collect.Given as goal
 

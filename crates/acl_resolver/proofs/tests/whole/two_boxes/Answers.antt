@@ -1,12 +1,12 @@
 use Rattle.std.proofs.Common.{◌≡◌, ℕ, ◌≤◌, List, [], ◌∷◌, ◌++◌, map, length, refl, sym, subst, ◌∙◌, ap, inl, inr, arith, false, string_bytes}
 use Rattle.std.specs.Prelude.{codes, count_by}
 use Rattle.std.proofs.lemmas.List.Sums.{count_by-le-length}
+use Rattle.addr_base.specs.Rights.{read_write}
 use Rattle.flat_model.specs.declared.boards.Board.{Board}
 use Rattle.flat_model.specs.declared.parts.DevicePart.{DevicePart}
 use Rattle.flat_model.specs.declared.texts.BoxText.{BoxText}
 use Rattle.flat_model.specs.declared.texts.GateTexts.{GateTexts}
 use Rattle.flat_model.specs.declared.texts.GrantText.{GrantText}
-use Rattle.flat_model.specs.Items.{read_write}
 use Rattle.flat_model.specs.Names.{is_name}
 use Rattle.flat_model.specs.Sound.{IsBoard}
 use Rattle.acl_resolver.specs.Resolvable.{IsBoxText, IsResolvable, is_ring_text}

@@ -1,7 +1,6 @@
-use Rattle.std.proofs.Common.{◌≡◌, ap, replicate, length}
+use Rattle.std.proofs.Common.{ap}
 use Rattle.flat_model.specs.declared.states.Flat.{Flat}
 use Rattle.flat_model.specs.Run.{opening_state}
-use Rattle.flat_model.specs.Thread.{opening_thread}
 use Rattle.flat_model.proofs.KeptSteps.{can_step-opening}
 use Rattle.flat_model.proofs.flat_state.FlatState.opening.Goals as goal
 

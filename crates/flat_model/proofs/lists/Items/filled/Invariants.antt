@@ -1,5 +1,5 @@
 use Rattle.std.proofs.Common.{◌≡◌, replicate}
-use Rattle.flat_model.proofs.opening.filled.Given as goal
+use Rattle.flat_model.proofs.lists.Items.filled.Given as goal
 
 abbrev pub invariant-loop : goal.invariant-loop
 invariant-loop g l = l.items.items ≡ replicate l.counter l.value
