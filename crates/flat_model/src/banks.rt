@@ -43,7 +43,7 @@ pub(crate) fn byte_at(board: &Board, memory: &Memory, a: u64) -> u8
 
 /// Writes a byte at an address; outside the banks nothing changes.
 #[tactic(auto, unfolding(crate::specs::Memory::put_byte))]
-pub(crate) fn put_byte(board: &Board, memory: &mut Memory, a: u64, value: u8)
+pub fn put_byte(board: &Board, memory: &mut Memory, a: u64, value: u8)
     ensures { memory.new ≡ spec.put_byte board.now memory.old (record { at = a; value = value }) }
 {
     if has(&board.flash, a) {
@@ -62,7 +62,7 @@ pub(crate) fn put_byte(board: &Board, memory: &mut Memory, a: u64, value: u8)
 }
 
 /// The word of `n` bytes at an address, the lowest first.
-pub(crate) fn word_at(board: &Board, memory: &Memory, a: u64, n: u8) -> u32
+pub fn word_at(board: &Board, memory: &Memory, a: u64, n: u8) -> u32
     requires small { n ≤ 4 }
     requires within { a + n < 2 ^ 64 }
     ensures exact { result ≡ spec.word_at board.now memory.now a n }
@@ -76,7 +76,7 @@ pub(crate) fn word_at(board: &Board, memory: &Memory, a: u64, n: u8) -> u32
 }
 
 /// Writes the `n` low bytes of a value at an address, the lowest first.
-pub(crate) fn put_word(board: &Board, memory: &mut Memory, a: u64, n: u8, value: u32)
+pub fn put_word(board: &Board, memory: &mut Memory, a: u64, n: u8, value: u32)
     requires within { a + n < 2 ^ 64 }
     ensures exact { memory.new ≡ spec.put_word board.now memory.old a n value }
 {

@@ -39,8 +39,8 @@ fn write_words(board: &Board, memory: &mut Memory)
     }
 }
 
-// Memory as it is at the start.
-fn opening_memory(alloc: Global, board: &Board) -> Result<Memory, OutOfMemory>
+/// Memory as it is at the start: zero but for the board's words.
+pub fn opening_memory(alloc: Global, board: &Board) -> Result<Memory, OutOfMemory>
     ensures { IfOk result (λ memory. memory ≡ memory_words.opening_memory board.now) }
 {
     let mut memory = blank_memory(alloc, board)?;
