@@ -1,5 +1,5 @@
 ghost use Rattle.std.specs.Prelude.{◌≡◌, ◌≤◌, IfOk, [], ◌∷◌, codes, false, length, map, string_bytes};
-ghost use Rattle.flat_model.specs.Items.{read_write};
+ghost use Rattle.addr_base.specs.Rights.{read_write};
 ghost use Rattle.flat_model.specs.Sound.{IsBoard};
 ghost use Rattle.acl_resolver.specs.Resolvable.{IsResolvable};
 ghost use Rattle.acl_resolver.specs.Resolve.{parts_of};
