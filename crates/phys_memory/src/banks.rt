@@ -1,12 +1,15 @@
-ghost use Rattle.std.specs.Prelude.{◌≡◌, ℕ, ◌+◌, ◌^◌, ◌<◌, ◌≤◌, IfOk};
-ghost use Rattle.flat_model.specs.Memory as words;
-ghost use Rattle.phys_memory.specs.View.{BanksView};
+ghost use Rattle.std.specs.Prelude.{◌≡◌, ◌+◌, ◌^◌, ◌≤◌, ◌<◌, Some, None, true, IfOk, if◌then◌else◌};
+ghost use Rattle.addr_base.specs.Range as range_words;
+ghost use Rattle.flat_model.specs.Memory as memory_words;
+ghost use Rattle.phys_memory.specs.Banks as spec;
 
-use flat_model::{Board, Items, Memory, OutOfMemory, opening_memory, put_word, word_at};
+use flat_model::{
+    Board, Items, Memory, OutOfMemory, Range, opening_memory, put_byte, put_word, word_at,
+};
 use std::alloc::Global;
 use std::marker::Model;
 
-/// The banks of a board.
+/// The banks of a board, which contracts see as the board and one map from addresses to bytes.
 #[derive(Drop)]
 pub struct Banks {
     board: Board,
@@ -14,15 +17,37 @@ pub struct Banks {
 }
 
 impl Model for Banks {
-    ghost use Rattle.phys_memory.specs.View.{BanksView};
+    ghost use Rattle.phys_memory.specs.Banks.{BanksView};
 
     ghost Value = { BanksView };
 
     ghost view = { λ b. record { board = b.board; memory = b.memory } };
 }
 
-// A board of one's own that is the same.
-fn copy_of(alloc: Global, board: &Board) -> Result<Board, OutOfMemory>
+// Whether the range has the address.
+fn has(range: &Range, a: u64) -> bool
+    ensures { result ≡ range_words.in_range range.now a }
+{
+    range.base as u64 <= a && a < range.end()
+}
+
+// Whether the address is in one of the board's banks.
+fn is_in_bank(board: &Board, a: u64) -> bool
+    ensures { result ≡ spec.is_in_bank board.now a }
+{
+    has(&board.flash, a) || has(&board.sram, a) || has(&board.peripherals, a)
+}
+
+// Whether each of the `n` addresses from `a` is in one of the board's banks.
+fn are_in_banks(board: &Board, a: u64, n: u32) -> bool
+    requires { a + n < 2 ^ 64 }
+    ensures { result ≡ spec.are_in_banks board.now a n }
+{
+    n == 0 || (is_in_bank(board, a) && are_in_banks(board, a + 1, n - 1))
+}
+
+// The same board again.
+fn copied(alloc: Global, board: &Board) -> Result<Board, OutOfMemory>
     ensures { IfOk result (λ copy. copy ≡ board.now) }
 {
     let words = Vec::from_slice(alloc, board.words.as_slice())?;
@@ -37,28 +62,67 @@ fn copy_of(alloc: Global, board: &Board) -> Result<Board, OutOfMemory>
 }
 
 impl Banks {
-    /// The banks at the start.
+    /// The banks of a board: zero but for its words. They keep a copy of the board, so that no call can ask for an
+    /// address by another board.
     pub fn new(alloc: Global, board: &Board) -> Result<Banks, OutOfMemory>
-        ensures { IfOk result (λ banks. banks ≡ record { board = board.now; memory = words.opening_memory board.now }) }
+        ensures { IfOk result (λ banks. banks ≡ spec.opening_banks board.now) }
     {
         let memory = opening_memory(alloc, board)?;
-        let board = copy_of(alloc, board)?;
+        let board = copied(alloc, board)?;
         Ok(Banks { board, memory })
     }
 
-    /// The word of `n` bytes at an address.
+    /// The little-endian word of `n` bytes at an address, where a byte outside the banks counts as 0.
     pub fn load(&self, a: u32, n: u32) -> u32
         requires { n ≤ 4 }
-        ensures { result ≡ words.word_at self.now.board self.now.memory a n }
+        ensures { result ≡ memory_words.word_at self.now.board self.now.memory a n }
     {
         word_at(&self.board, &self.memory, a as u64, n as u8)
     }
 
-    /// Writes the `n` low bytes of a value at an address.
-    pub fn store(&mut self, a: u32, n: u32, v: u32)
+    /// Writes the low `n` bytes of a value at an address, the lowest first; outside the banks nothing changes.
+    pub fn store(&mut self, a: u32, n: u32, value: u32)
         requires { n ≤ 4 }
-        ensures { self.new ≡ record self.old { memory = words.put_word self.old.board self.old.memory a n v } }
+        ensures { self.new ≡ spec.with_word self.old a n value }
     {
-        put_word(&self.board, &mut self.memory, a as u64, n as u8, v);
+        put_word(&self.board, &mut self.memory, a as u64, n as u8, value);
+    }
+
+    /// The little-endian word of `n` bytes at an address; none exactly where a byte is outside the banks.
+    pub fn get(&self, a: u32, n: u32) -> Option<u32>
+        requires { n ≤ 4 }
+        ensures { result ≡ (if spec.are_in_banks self.now.board a n
+            then Some (memory_words.word_at self.now.board self.now.memory a n) else None) }
+    {
+        if are_in_banks(&self.board, a as u64, n) {
+            Some(self.load(a, n))
+        } else {
+            None
+        }
+    }
+
+    /// Writes the low `n` bytes of a value at an address; false exactly where a byte is outside the banks, and then
+    /// nothing changes.
+    pub fn put(&mut self, a: u32, n: u32, value: u32) -> bool
+        requires { n ≤ 4 }
+        ensures answer { result ≡ spec.are_in_banks self.old.board a n }
+        ensures exact { self.new ≡ (if result then spec.with_word self.old a n value else self.old) }
+    {
+        let inside = are_in_banks(&self.board, a as u64, n);
+        if inside {
+            self.store(a, n, value);
+        }
+        inside
+    }
+
+    /// Fills a range with zero bytes.
+    #[tactic(auto, using(crate::proofs::BankLemmas::zeros_past))]
+    pub fn zero(&mut self, range: Range)
+        requires { spec.lies_in_one_bank self.old.board range ≡ true }
+        ensures { self.new ≡ spec.with_zeros self.old range }
+    {
+        for a in range.base as u64..range.end() {
+            put_byte(&self.board, &mut self.memory, a, 0);
+        }
     }
 }

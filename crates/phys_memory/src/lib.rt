@@ -1,6 +1,8 @@
-//! The memory of a board in three banks.
+//! The memory of a board: the bytes of its flash, its SRAM and its peripherals, as one map from addresses to bytes.
 #![tactic(auto)]
 
 mod banks;
+#[cfg(test)]
+mod tests;
 
 pub use banks::Banks;
