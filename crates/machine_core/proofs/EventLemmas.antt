@@ -1,8 +1,7 @@
 -- What a turn is for the unit where no page is called for.
-use Rattle.std.proofs.Common.{◌≡◌, ℕ, zero, suc, ◌+◌, ◌≤◌, Bool, true, false, ◌&&◌, cond, Option, Some, None, List, [], ◌∷◌, ◌++◌, map, refl, sym, ap, ◌∙◌, subst, length, arith, append_assoc, append-nil, ◌<◌}
-use Rattle.std.specs.List.{AllByRecursion, slice_get}
-use Rattle.std.specs.Prelude.{is_none}
-use Rattle.std.proofs.lemmas.List.{map-append, length-map, length-append}
+use Rattle.std.proofs.Common.{◌≡◌, ℕ, ◌+◌, ◌≤◌, true, false, Option, Some, None, List, [], ◌∷◌, ◌++◌, map, refl, sym, ap, ◌∙◌, length, arith, append_assoc, append-nil, ◌<◌}
+use Rattle.std.specs.List.{slice_get}
+use Rattle.std.proofs.lemmas.List.{length-map, length-append}
 use Rattle.addr_base.specs.declared.identity.BoxId.{BoxId}
 use Rattle.addr_base.specs.declared.identity.ThreadId.{ThreadId}
 use Rattle.addr_base.specs.declared.pairs.Pair.{Pair}
@@ -21,19 +20,15 @@ use Rattle.flat_model.specs.declared.parts.Config.{Config}
 use Rattle.flat_model.specs.declared.parts.ThreadPart.{ThreadPart}
 use Rattle.flat_model.specs.declared.states.Flat.{Flat}
 use Rattle.flat_model.specs.declared.states.ThreadState.{ThreadState}
-use Rattle.flat_model.specs.Decision.{decision, is_granted}
+use Rattle.flat_model.specs.Decision.{decision}
 use Rattle.addr_base.specs.declared.pairs.Rotated.{Rotated}
 use Rattle.addr_base.specs.declared.pairs.Verdict.TheVariants.{Granted, Denied}
 use Rattle.std.specs.Option.{option_map}
-use Rattle.flat_model.specs.Interrupts.{due_interrupt}
 use Rattle.flat_model.specs.Plan.{first_serving, plan_of}
-use Rattle.flat_model.specs.Step.{empties_slots, instruction_in, is_page_call, is_status, pages_at, reply_to, step, touch_at, touch_of}
-use Rattle.flat_model.specs.Thread.{has_ended, is_ready}
-use Rattle.flat_model.specs.Today.{RunsToday, is_run_today, runs_today, thread_runs_today}
+use Rattle.flat_model.specs.Step.{empties_slots, instruction_in, is_page_call, pages_at, reply_to, step, touch_at, touch_of}
+use Rattle.flat_model.specs.Today.{RunsToday, runs_today, thread_runs_today}
 use Rattle.flat_model.specs.Trace.{World, event_items, world_after}
-use Rattle.flat_model.specs.UnitRun.{UnitState, access_lines, acting_box, lines_of_box, lines_of_event, part_at, rotate_lines, rotating_pair, switch_lines, unit_after, unit_after_box, unit_after_event, unit_lines}
-use Rattle.flat_model.specs.Want.{next_instruction}
-use Rattle.flat_model.proofs.Elements.{each-get}
+use Rattle.flat_model.specs.UnitRun.{UnitState, acting_box, lines_of_box, lines_of_event, part_at, rotate_lines, rotating_pair, unit_after, unit_after_box, unit_after_event, unit_lines}
 use Rattle.flat_model.proofs.TodayLemmas.{list_all-get}
 use Rattle.flat_model.proofs.WantLemmas.{next-today}
 

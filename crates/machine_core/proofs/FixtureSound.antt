@@ -1,12 +1,9 @@
 -- The configuration of the tests is sound.
-use Rattle.std.proofs.Common.{◌≡◌, ℕ, ◌+◌, ◌%◌, ◌^◌, ◌<◌, ◌≤◌, Bool, true, false, List, [], ◌∷◌, refl, arith, inl, inr}
+use Rattle.std.proofs.Common.{[], ◌∷◌, refl, arith, inl, inr}
 use Rattle.std.specs.List.{AllByRecursion}
 use Rattle.std.proofs.lemmas.Bool.Decides.{nat_tests}
-use Rattle.addr_base.specs.declared.ranges.Range.{Range}
-use Rattle.flat_model.specs.declared.parts.Item.{Item}
-use Rattle.flat_model.specs.Operands.{IsValidInstr}
-use Rattle.flat_model.specs.Placing.{IsOwnAfter, common_range}
-use Rattle.flat_model.specs.Sound.{AreApart, IsBank, IsBoard, IsBox, IsGrant, IsPowerRange, IsSound, IsThread, IsTiledRange, IsWithinLimits}
+use Rattle.flat_model.specs.Placing.{common_range}
+use Rattle.flat_model.specs.Sound.{AreApart, IsBoard, IsBox, IsSound, IsThread, IsWithinLimits}
 use Rattle.machine_core.specs.Fixture as fixture
 
 limits : IsWithinLimits fixture.two_boxes

@@ -1,10 +1,9 @@
 -- What one more turn leaves of what a machine keeps.
-use Rattle.std.proofs.Common.{◌≡◌, ℕ, zero, suc, ◌+◌, ◌-◌, ◌*◌, ◌<◌, ◌≤◌, ◌⊎◌, Bool, true, false, ◌&&◌, cond, Option, Some, None, List, [], ◌∷◌, ◌++◌, map, refl, sym, ap, ◌∙◌, subst, length, arith, inl, inr, append_assoc, append-nil}
+use Rattle.std.proofs.Common.{◌≡◌, ℕ, ◌+◌, ◌-◌, ◌*◌, ◌<◌, ◌≤◌, Bool, true, false, cond, Option, Some, None, List, [], ◌∷◌, ◌++◌, refl, sym, ap, ◌∙◌, subst, length, arith, inl, inr, append-nil}
 use Rattle.std.specs.List.{slice_get, slice_set}
 use Rattle.std.specs.Option.{option_map_or}
-use Rattle.std.proofs.lemmas.Bool.{true≢false, and_from}
-use Rattle.std.proofs.lemmas.List.{length-set, length-append, length-map}
-use Rattle.std.proofs.lemmas.Option.{slice_get_within}
+use Rattle.std.proofs.lemmas.Bool.{and_from}
+use Rattle.std.proofs.lemmas.List.{length-set, length-append}
 use Rattle.std.proofs.lemmas.Bool.Decides.{nat_tests}
 use Rattle.addr_base.specs.declared.identity.BoxId.{BoxId}
 use Rattle.addr_base.specs.declared.identity.ThreadId.{ThreadId}
@@ -13,11 +12,9 @@ use Rattle.flat_model.specs.declared.accesses.Access.{Access}
 use Rattle.flat_model.specs.declared.actors.Who.{Who}
 use Rattle.flat_model.specs.declared.events.Choice.{Choice}
 use Rattle.flat_model.specs.declared.events.Choice.TheVariants as choice
-use Rattle.flat_model.specs.declared.events.Drive.{Drive}
-use Rattle.flat_model.specs.declared.events.Drive.TheVariants.{Script, Threads}
+use Rattle.flat_model.specs.declared.events.Drive.TheVariants.{Script}
 use Rattle.flat_model.specs.declared.events.Mode.TheVariants as mode
 use Rattle.flat_model.specs.declared.events.Logged.{Logged}
-use Rattle.flat_model.specs.declared.events.Logged.TheVariants as item
 use Rattle.flat_model.specs.declared.events.Reply.{Reply}
 use Rattle.flat_model.specs.declared.events.UnitLine.{UnitLine}
 use Rattle.flat_model.specs.declared.events.UnitLine.TheVariants as line
@@ -31,7 +28,7 @@ use Rattle.flat_model.specs.Log.{choices_of}
 use Rattle.flat_model.specs.Plan.{plan_of}
 use Rattle.flat_model.specs.Run.{opening_state, state_after_all}
 use Rattle.flat_model.specs.Sound.{IsSound}
-use Rattle.flat_model.specs.Step.{reply_to, step, touch_at, turn_at, turn_in}
+use Rattle.flat_model.specs.Step.{step, touch_at, turn_at, turn_in}
 use Rattle.flat_model.specs.Stepping.{CanStep, IsWithin, KeepsBudgets}
 use Rattle.flat_model.specs.StepsLeft.{steps_left, steps_left_of}
 use Rattle.flat_model.specs.Thread.{has_ended}
@@ -39,14 +36,14 @@ use Rattle.flat_model.specs.Today.{RunsToday}
 use Rattle.flat_model.specs.Trace.{World, event_items, opening_world, trace_of, world_after, world_after_all, world_reached}
 use Rattle.flat_model.specs.Turn.{turn_row}
 use Rattle.flat_model.specs.UnitRun.{UnitState, access_line, access_lines, acting_box, entered, is_last, lines_of_event, rotate_lines, rotated, rotating_pair, switch_lines, unit_lines}
-use Rattle.flat_model.specs.Want.{fits, is_thread}
+use Rattle.flat_model.specs.Want.{fits}
 use Rattle.flat_model.proofs.ReadyWorlds.{IsWorldReady-reached}
 use Rattle.flat_model.proofs.Budgets.{turn_row-within}
 use Rattle.flat_model.proofs.Elements.{slice_get_some}
 use Rattle.flat_model.proofs.KeptSteps.{can-step, get-slice_set, home-there, left-turn, steps_left-set}
 use Rattle.flat_model.proofs.TraceLemmas.{all_fit-append, choices_of-append, choices_of-event, flat_after_all, trace_of-append, world_after_all-append}
 use Rattle.flat_model.proofs.WantLemmas.{fits-turn, step-turn}
-use Rattle.machine_core.specs.Kept.{HasOwners, IsKept, events_beside}
+use Rattle.machine_core.specs.Kept.{HasOwners, IsKept}
 use Rattle.machine_core.specs.View.{ended_in}
 use Rattle.machine_core.proofs.EventLemmas.{event-length, lines-box, lines-none}
 

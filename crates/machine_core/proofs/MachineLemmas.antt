@@ -1,19 +1,16 @@
 -- What a machine keeps at its start and at each step, and what its log then is.
-use Rattle.std.proofs.Common.{◌≡◌, ℕ, zero, suc, ◌+◌, ◌-◌, ◌*◌, ◌<◌, ◌≤◌, Bool, true, false, cond, Option, Some, None, List, [], ◌∷◌, ◌++◌, map, replicate, refl, sym, ap, ◌∙◌, subst, length, arith, sum_by}
+use Rattle.std.proofs.Common.{◌≡◌, ℕ, ◌+◌, ◌-◌, ◌*◌, ◌<◌, ◌≤◌, true, cond, Some, List, [], ◌∷◌, ◌++◌, map, replicate, refl, sym, ap, ◌∙◌, subst, length, arith, sum_by}
 use Rattle.std.specs.List.{list_all, slice_get}
 use Rattle.std.proofs.lemmas.List.Sums.{sum_by-cons}
 use Rattle.std.proofs.lemmas.List.{length-replicate}
 use Rattle.addr_base.specs.declared.identity.ThreadId.{ThreadId}
-use Rattle.flat_model.specs.declared.events.Choice.{Choice}
 use Rattle.flat_model.specs.declared.events.Choice.TheVariants as choice
 use Rattle.flat_model.specs.declared.events.Drive.{Drive}
-use Rattle.flat_model.specs.declared.events.Drive.TheVariants.{Script, Threads}
+use Rattle.flat_model.specs.declared.events.Drive.TheVariants.{Script}
 use Rattle.flat_model.specs.declared.events.Logged.{Logged}
-use Rattle.flat_model.specs.declared.logs.Log.{Log}
 use Rattle.flat_model.specs.declared.parts.Config.{Config}
 use Rattle.flat_model.specs.declared.parts.ThreadPart.{ThreadPart}
 use Rattle.flat_model.specs.declared.states.Flat.{Flat}
-use Rattle.flat_model.specs.declared.states.ThreadState.{ThreadState}
 use Rattle.flat_model.specs.Legal.{IsFlatRun, IsLegal, IsUnitRun, is_agreed}
 use Rattle.flat_model.specs.Log.{Event, choices_of, ends_with_entry, events_of, replies_of}
 use Rattle.flat_model.specs.OneLog.{entries_of_run, log_of_choices, woven_items}
@@ -21,10 +18,10 @@ use Rattle.flat_model.specs.Run.{ends_of, opening_state, state_after_all}
 use Rattle.flat_model.specs.Script.{choice_of_thread}
 use Rattle.flat_model.specs.Sound.{IsSound, IsThread}
 use Rattle.flat_model.specs.Stepping.{IsWithin, KeepsBudgets}
-use Rattle.flat_model.specs.StepsLeft.{steps_left, steps_left_of}
-use Rattle.flat_model.specs.Thread.{has_ended, opening_thread}
+use Rattle.flat_model.specs.StepsLeft.{steps_left}
+use Rattle.flat_model.specs.Thread.{opening_thread}
 use Rattle.flat_model.specs.Today.{RunsToday}
-use Rattle.flat_model.specs.Trace.{World, event_items, opening_world, trace_of, world_after, world_reached}
+use Rattle.flat_model.specs.Trace.{World, event_items, opening_world, world_after}
 use Rattle.flat_model.specs.UnitRun.{UnitState, lines_of_run, opening_unit}
 use Rattle.flat_model.proofs.Agreement.{trace-agrees}
 use Rattle.flat_model.proofs.ReadyWorlds.{IsWorldReady-opening}

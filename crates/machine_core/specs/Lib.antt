@@ -1,3 +1,4 @@
 pub mod Fixture
 pub mod Kept
+pub mod Parts
 pub mod View

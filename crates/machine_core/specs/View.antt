@@ -1,5 +1,5 @@
 -- What a contract sees of a machine: its configuration, its drive, how many extra events may come, and its log.
-use Rattle.std.specs.Prelude.{ℕ, ◌-◌, Bool, true, Option, List, [], ◌++◌, if◌then◌else◌, slice_get}
+use Rattle.std.specs.Prelude.{ℕ, ◌-◌, Bool, true, List, [], ◌++◌, if◌then◌else◌, slice_get}
 use Rattle.std.specs.Option.{option_map_or}
 use Rattle.addr_base.specs.declared.identity.ThreadId.{ThreadId}
 use Rattle.flat_model.specs.declared.events.Choice.{Choice}

@@ -11,10 +11,11 @@ ghost use Rattle.flat_model.specs.Today.{RunsToday};
 ghost use Rattle.machine_core.specs.Kept.{events_beside};
 ghost use Rattle.machine_core.specs.View.{booted, ended_in, stepped, world_of};
 
+use crate::parts::{Parts, opening_parts, thread_of};
 use crate::record::record_turn;
 use flat_model::{
-    Config, Drive, End, Flat, Items, Log, Logged, OutOfMemory, ThreadId, ThreadPart, ThreadState,
-    has_ended, opening_state, thread_of,
+    Config, Drive, End, Items, Log, Logged, OutOfMemory, ThreadId, ThreadPart, ThreadState,
+    has_ended,
 };
 use region_rotation::Rotator;
 use std::alloc::Global;
@@ -27,7 +28,7 @@ pub struct Machine {
     config: Config,
     drive: Drive,
     extra: u32,
-    flat: Flat,
+    parts: Parts,
     rotator: Rotator,
     items: Vec<Logged>,
     ends: Vec<End>,
@@ -36,6 +37,7 @@ pub struct Machine {
 impl Model for Machine {
     ghost use Rattle.std.specs.Prelude.{◌≡◌, vec_capacity};
     ghost use Rattle.machine_core.specs.Kept.{HasEnds, IsKept};
+    ghost use Rattle.machine_core.specs.Parts.{flat_of};
     ghost use Rattle.machine_core.specs.View.{MachineView};
     ghost use Rattle.region_rotation.specs.Rotation.{rotation_of};
 
@@ -43,9 +45,10 @@ impl Model for Machine {
 
     ghost view = { λ m. record { config = m.config; drive = m.drive; extra = m.extra; items = m.items.items } };
 
-    ghost invariant = { λ m. IsKept m.config m.drive m.extra m.items.items (record { flat = m.flat; unit = m.rotator.unit }) (vec_capacity m.items)
+    ghost invariant = { λ m. IsKept m.config m.drive m.extra m.items.items (record { flat = flat_of m.parts; unit = m.rotator.unit }) (vec_capacity m.items)
         × (m.rotator ≡ rotation_of m.config m.rotator.unit)
-        × HasEnds m.config m.ends.items (vec_capacity m.ends) };
+        × HasEnds m.config m.ends.items (vec_capacity m.ends)
+        × (m.parts.banks.board ≡ m.config.board) };
 }
 
 // How many steps the threads may take in all.
@@ -72,10 +75,10 @@ fn beside(cfg: &Config, drive: Drive, extra: u32) -> usize
 }
 
 // Whether the thread with this number can run no more.
-fn has_ended_at(flat: &Flat, t: ThreadId) -> bool
-    ensures { result ≡ option_map_or thread_words.has_ended (slice_get flat.now.threads t.0) true }
+fn has_ended_at(parts: &Parts, t: ThreadId) -> bool
+    ensures { result ≡ option_map_or thread_words.has_ended (slice_get parts.now.threads t.0) true }
 {
-    match thread_of(flat, t) {
+    match thread_of(parts, t) {
         Some(thread) => has_ended(&thread),
         None => true,
     }
@@ -128,7 +131,7 @@ impl Machine {
     {
         let steps = total_steps(config.threads.as_slice());
         let room = 4 * steps + beside(&config, drive, extra);
-        let flat = opening_state(alloc, &config)?;
+        let parts = opening_parts(alloc, &config)?;
         let rotator = Rotator::new(alloc, &config)?;
         let items = Vec::with_capacity(alloc, room)?;
         let ends = Vec::with_capacity(alloc, config.threads.len())?;
@@ -136,7 +139,7 @@ impl Machine {
             config,
             drive,
             extra,
-            flat,
+            parts,
             rotator,
             items,
             ends,
@@ -161,7 +164,7 @@ impl Machine {
     pub fn ended(&self, t: ThreadId) -> bool
         ensures { result ≡ ended_in (world_of self.now) t.0 }
     {
-        has_ended_at(&self.flat, t)
+        has_ended_at(&self.parts, t)
     }
 
     /// The event that the thread's word of the script stands for.
@@ -171,10 +174,10 @@ impl Machine {
         requires extra { ended_in (world_of self.old) t.0 ≡ true → 1 ≤ self.old.extra }
         ensures { self.new ≡ stepped self.old t }
     {
-        let extra = extra_after(self.extra, has_ended_at(&self.flat, t));
+        let extra = extra_after(self.extra, has_ended_at(&self.parts, t));
         record_turn(
             &self.config,
-            &mut self.flat,
+            &mut self.parts,
             &mut self.rotator,
             t,
             &mut self.items,
@@ -193,12 +196,12 @@ impl Machine {
             config,
             drive: _,
             extra: _,
-            flat,
+            parts,
             rotator: _,
             items,
             mut ends,
         } = self;
-        write_ends(flat.threads.as_slice(), &mut ends);
+        write_ends(parts.threads.as_slice(), &mut ends);
         let log = Log {
             items: Items::from_vec(items),
             ends: Items::from_vec(ends),

@@ -8,11 +8,15 @@ ghost use Rattle.flat_model.specs.Trace.{event_items, world_after};
 ghost use Rattle.flat_model.specs.UnitRun as unit_words;
 ghost use Rattle.flat_model.specs.Plan.{plan_of};
 ghost use Rattle.machine_core.specs.Kept.{HasOwners};
+ghost use Rattle.machine_core.specs.Parts.{flat_of};
 ghost use Rattle.region_rotation.specs.Rotation.{rotation_of};
 
+use crate::parts::{Parts, thread_of};
+use crate::touch::touch_at;
+use crate::turn::turn_at;
 use flat_model::{
-    Access, BoxId, BoxPart, Choice, Config, Entry, Flat, Items, Logged, ThreadId, UnitLine,
-    Verdict, has_ended, program_of, thread_of, touch_at, turn_at,
+    Access, BoxId, BoxPart, Choice, Config, Entry, Items, Logged, ThreadId, UnitLine, Verdict,
+    has_ended, program_of,
 };
 use region_rotation::Rotator;
 
@@ -126,13 +130,13 @@ fn record_access(
 }
 
 // The box whose event a turn of a thread is for the unit: none where the thread has ended.
-fn acting_box(cfg: &Config, flat: &Flat, t: ThreadId) -> Option<BoxId>
-    ensures { result ≡ unit_words.acting_box (slice_get cfg.now.threads t.0) (slice_get flat.now.threads t.0) }
+fn acting_box(cfg: &Config, parts: &Parts, t: ThreadId) -> Option<BoxId>
+    ensures { result ≡ unit_words.acting_box (slice_get cfg.now.threads t.0) (slice_get parts.now.threads t.0) }
 {
     let Some(program) = program_of(cfg, t) else {
         return None;
     };
-    let Some(thread) = thread_of(flat, t) else {
+    let Some(thread) = thread_of(parts, t) else {
         return None;
     };
     if has_ended(&thread) {
@@ -181,59 +185,61 @@ fn record_box(
 // The unit's part of a turn of a thread.
 fn record_lines(
     cfg: &Config,
-    flat: &Flat,
+    parts: &Parts,
     rotator: &mut Rotator,
     t: ThreadId,
     items: &mut Vec<Logged>,
 )
     requires today { RunsToday cfg.now }
     requires rotation { rotator.old ≡ rotation_of cfg.now rotator.old.unit }
-    requires owners { HasOwners cfg.now.board.heap flat.now.shared.owners }
+    requires owners { HasOwners cfg.now.board.heap parts.now.owners }
     requires room { length items.old.items
-        + length (unit_words.unit_lines cfg.now flat.now rotator.old.unit (Choice.Turn t true))
+        + length (unit_words.unit_lines cfg.now (flat_of parts.now) rotator.old.unit (Choice.Turn t true))
         ≤ vec_capacity items.old }
 
     ensures rotation { rotator.new ≡ rotation_of cfg.now
-        (unit_words.unit_after cfg.now flat.now rotator.old.unit (Choice.Turn t true)) }
+        (unit_words.unit_after cfg.now (flat_of parts.now) rotator.old.unit (Choice.Turn t true)) }
     ensures items { items.new.items ≡ items.old.items
-        ++ map item.Unit (unit_words.unit_lines cfg.now flat.now rotator.old.unit (Choice.Turn t true)) }
+        ++ map item.Unit (unit_words.unit_lines cfg.now (flat_of parts.now) rotator.old.unit (Choice.Turn t true)) }
     ensures capacity { vec_capacity items.old ≤ vec_capacity items.new }
 {
-    let Some(b) = acting_box(cfg, flat, t) else {
+    let Some(b) = acting_box(cfg, parts, t) else {
         return;
     };
     let Some(part) = part_of(cfg, b) else {
         return;
     };
-    let access = touch_at(cfg, flat, t);
-    record_box(cfg, rotator, &flat.shared.owners, b, part, access, items);
+    let access = touch_at(cfg, parts, t);
+    record_box(cfg, rotator, &parts.owners, b, part, access, items);
 }
 
 /// A turn of a thread: its unit's lines, and then its entry.
 pub(crate) fn record_turn(
     cfg: &Config,
-    flat: &mut Flat,
+    parts: &mut Parts,
     rotator: &mut Rotator,
     t: ThreadId,
     items: &mut Vec<Logged>,
 )
     requires today { RunsToday cfg.now }
     requires rotation { rotator.old ≡ rotation_of cfg.now rotator.old.unit }
-    requires owners { HasOwners cfg.now.board.heap flat.old.shared.owners }
-    requires steps { ForSome (slice_get flat.old.threads t.0) CanStep }
+    requires board { parts.old.banks.board ≡ cfg.now.board }
+    requires owners { HasOwners cfg.now.board.heap parts.old.owners }
+    requires steps { ForSome (slice_get parts.old.threads t.0) CanStep }
     requires room { length items.old.items
-        + length (event_items cfg.now (record { flat = flat.old; unit = rotator.old.unit }) (Choice.Turn t true))
+        + length (event_items cfg.now (record { flat = flat_of parts.old; unit = rotator.old.unit }) (Choice.Turn t true))
         ≤ vec_capacity items.old }
 
-    ensures world { world_after cfg.now (record { flat = flat.old; unit = rotator.old.unit }) (Choice.Turn t true)
-        ≡ record { flat = flat.new; unit = rotator.new.unit } }
+    ensures world { world_after cfg.now (record { flat = flat_of parts.old; unit = rotator.old.unit }) (Choice.Turn t true)
+        ≡ record { flat = flat_of parts.new; unit = rotator.new.unit } }
+    ensures board { parts.new.banks.board ≡ parts.old.banks.board }
     ensures rotation { rotator.new ≡ rotation_of cfg.now rotator.new.unit }
     ensures items { items.new.items ≡ items.old.items
-        ++ event_items cfg.now (record { flat = flat.old; unit = rotator.old.unit }) (Choice.Turn t true) }
+        ++ event_items cfg.now (record { flat = flat_of parts.old; unit = rotator.old.unit }) (Choice.Turn t true) }
     ensures capacity { vec_capacity items.old ≤ vec_capacity items.new }
 {
-    record_lines(cfg, flat, rotator, t, items);
-    let reply = turn_at(cfg, flat, t, true);
+    record_lines(cfg, parts, rotator, t, items);
+    let reply = turn_at(cfg, parts, t, true);
     let choice = Choice::Turn { t, room: true };
     push(items, Logged::Core(Entry { choice, reply }));
 }

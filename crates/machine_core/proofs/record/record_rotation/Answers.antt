@@ -1,4 +1,4 @@
-use Rattle.std.proofs.Common.{◌≡◌, ◌+◌, ◌<◌, ◌++◌, ap, sym, ◌∙◌, arith, map, length}
+use Rattle.std.proofs.Common.{◌++◌, ap, sym, ◌∙◌, arith, map, length}
 use Rattle.flat_model.specs.declared.events.Logged.TheVariants as item
 use Rattle.machine_core.proofs.EventLemmas.{noted-none, rotation-line, rotation-none}
 use Rattle.machine_core.proofs.record.record_rotation.Goals as goal

@@ -1,5 +1,6 @@
-use Rattle.std.proofs.Common.{◌≡◌, ◌-◌, ◌∙◌, ap, cond, sym}
+use Rattle.std.proofs.Common.{◌-◌, ◌∙◌, ap, cond}
 use Rattle.std.specs.Prelude.{vec_capacity}
+use Rattle.machine_core.specs.Parts.{flat_of}
 use Rattle.machine_core.specs.View.{stepped}
 use Rattle.machine_core.proofs.KeptEvents.{can_step, has_owners, has_room}
 use Rattle.machine_core.proofs.MachineLemmas.{kept-step, step-ready, stepped-is}
@@ -8,41 +9,42 @@ use Rattle.machine_core.proofs.machine.Machine.script_step.Goals as goal
 pub record_turn-requires-clause-steps : goal.record_turn-requires-clause-steps
 record_turn-requires-clause-steps c =
     let m = c.self.inside in
-    let ready = step-ready c.args.self.now m.config m.drive m.extra m.items.items (record { flat = m.flat; unit = m.rotator.unit }) (vec_capacity m.items) c.args.t
+    let ready = step-ready c.args.self.now m.config m.drive m.extra m.items.items (record { flat = flat_of m.parts; unit = m.rotator.unit }) (vec_capacity m.items) c.args.t
     c.self.view_is c.requires.drive c.requires.thread c.requires.extra c.self.invariant.0 in
-    can_step m.config m.extra m.items.items (record { flat = m.flat; unit = m.rotator.unit }) (vec_capacity m.items) c.args.t ready.0 ready.1 ready.2
+    can_step m.config m.extra m.items.items (record { flat = flat_of m.parts; unit = m.rotator.unit }) (vec_capacity m.items) c.args.t ready.0 ready.1 ready.2
 
 pub record_turn-requires-clause-room : goal.record_turn-requires-clause-room
 record_turn-requires-clause-room c =
     let m = c.self.inside in
-    let ready = step-ready c.args.self.now m.config m.drive m.extra m.items.items (record { flat = m.flat; unit = m.rotator.unit }) (vec_capacity m.items) c.args.t
+    let ready = step-ready c.args.self.now m.config m.drive m.extra m.items.items (record { flat = flat_of m.parts; unit = m.rotator.unit }) (vec_capacity m.items) c.args.t
     c.self.view_is c.requires.drive c.requires.thread c.requires.extra c.self.invariant.0 in
-    has_room m.config m.extra m.items.items (record { flat = m.flat; unit = m.rotator.unit }) (vec_capacity m.items) c.args.t ready.0 ready.1 ready.2
+    has_room m.config m.extra m.items.items (record { flat = flat_of m.parts; unit = m.rotator.unit }) (vec_capacity m.items) c.args.t ready.0 ready.1 ready.2
 
 pub record_turn-requires-clause-owners : goal.record_turn-requires-clause-owners
 record_turn-requires-clause-owners c =
     let m = c.self.inside in
-    let ready = step-ready c.args.self.now m.config m.drive m.extra m.items.items (record { flat = m.flat; unit = m.rotator.unit }) (vec_capacity m.items) c.args.t
+    let ready = step-ready c.args.self.now m.config m.drive m.extra m.items.items (record { flat = flat_of m.parts; unit = m.rotator.unit }) (vec_capacity m.items) c.args.t
     c.self.view_is c.requires.drive c.requires.thread c.requires.extra c.self.invariant.0 in
-    has_owners m.config m.extra m.items.items (record { flat = m.flat; unit = m.rotator.unit }) (vec_capacity m.items) c.args.t ready.0 ready.1 ready.2
+    has_owners m.config m.extra m.items.items (record { flat = flat_of m.parts; unit = m.rotator.unit }) (vec_capacity m.items) c.args.t ready.0 ready.1 ready.2
 
 pub invariant_of-self : goal.invariant_of-self
 invariant_of-self c =
     let m = c.self.inside in (
-      kept-step c.args.self.now m.config m.drive m.extra m.items.items (record { flat = m.flat; unit = m.rotator.unit }) (vec_capacity m.items) c.args.t
+      kept-step c.args.self.now m.config m.drive m.extra m.items.items (record { flat = flat_of m.parts; unit = m.rotator.unit }) (vec_capacity m.items) c.args.t
           c.self.view_is c.requires.drive c.requires.thread c.requires.extra c.self.invariant.0
           c.extra_after-extra.result c.record_turn.new.items.items
-          (record { flat = c.record_turn.new.flat; unit = c.record_turn.new.rotator.unit }) (vec_capacity c.record_turn.new.items)
+          (record { flat = flat_of c.record_turn.new.parts; unit = c.record_turn.new.rotator.unit }) (vec_capacity c.record_turn.new.items)
           (c.extra_after-extra.ensures ∙ ap (λ b. cond b (m.extra - 1) m.extra) c.has_ended_at.ensures)
           c.record_turn.ensures.items c.record_turn.ensures.world c.record_turn.ensures.capacity,
       c.record_turn.ensures.rotation,
       c.self.invariant.2,
+      c.record_turn.ensures.board ∙ c.self.invariant.3,
     )
 
 pub returns : goal.returns
 returns c =
     let m = c.self.inside in
-    stepped-is m.config m.drive m.extra m.items.items (record { flat = m.flat; unit = m.rotator.unit }) (vec_capacity m.items) c.args.t
+    stepped-is m.config m.drive m.extra m.items.items (record { flat = flat_of m.parts; unit = m.rotator.unit }) (vec_capacity m.items) c.args.t
     c.extra_after-extra.result c.record_turn.new.items.items c.self.invariant.0
     (c.extra_after-extra.ensures ∙ ap (λ b. cond b (m.extra - 1) m.extra) c.has_ended_at.ensures)
     c.record_turn.ensures.items
