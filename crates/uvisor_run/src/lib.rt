@@ -6,6 +6,7 @@ mod answers;
 mod check_text;
 mod check_writing;
 mod commands;
+mod laws;
 mod refusal_text;
 mod runnable;
 mod scripting;
@@ -15,5 +16,6 @@ mod top;
 
 pub use acceptance::accept;
 pub use check_writing::write_check;
+pub use laws::{a_legal_log_is_the_log_of_its_choices, grants_need_no_history, legal_logs_are_named};
 pub use scripting::run_script;
 pub use top::scripted;
