@@ -1,6 +1,7 @@
 #!/usr/bin/env bash
 # Compares what the program and the outside tools print on the examples with the stored outputs, byte by byte.
-# Beside NAME.toml: NAME.log is the output of `script`, NAME.check that of `check`; in refused/, NAME.line is that of `check`.
+# Beside NAME.toml: NAME.log is the output of `script`, NAME.check that of `check`; in refused/, NAME.line is that of
+# `check`, and NAME.script-line that of `script` where `check` refuses nothing.
 # Prints 'N of N as stored', and ends with 1 where something differs.
 set -u
 top=$(cd "$(dirname "$0")/.." && pwd) || exit 1
@@ -28,7 +29,7 @@ compare() {
     fi
 }
 
-for input in examples/*.toml; do
+for input in examples/*.toml examples/faults/*.toml; do
     name=${input%.toml}
     [ -f "$name.log" ] && compare "$name.log" 0 "$run" script <"$input"
     [ -f "$name.check" ] && compare "$name.check" 0 "$run" check <"$input"
@@ -37,8 +38,9 @@ for input in examples/*.toml; do
     [ -f "$name.who" ] && compare "$name.who" 0 scripts/who-holds "$(cat "$name.address")" <"$name.check"
 done
 for input in examples/refused/*.toml; do
-    [ -f "$input" ] || continue
-    compare "${input%.toml}.line" 1 "$run" check <"$input"
+    name=${input%.toml}
+    [ -f "$name.line" ] && compare "$name.line" 1 "$run" check <"$input"
+    [ -f "$name.script-line" ] && compare "$name.script-line" 1 "$run" script <"$input"
 done
 echo "$same of $all as stored"
 [ "$same" -eq "$all" ]
