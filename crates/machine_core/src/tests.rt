@@ -3,9 +3,9 @@ ghost use Rattle.machine_core.specs.Fixture as fixture;
 
 use crate::Machine;
 use flat_model::{
-    Board, BoxId, BoxPart, Choice, Config, Drive, End, Entry, Flaw, Instr, Item, Items, Kind,
-    Logged, Mode, OutOfMemory, Pair, Range, Reply, Rights, Text, ThreadId, ThreadPart, UnitLine,
-    Verdict,
+    Board, BoxId, BoxPart, Choice, Config, Drive, End, Entry, FlatState, Flaw, Instr, Item, Items,
+    Kind, Log, Logged, Mode, OutOfMemory, Pair, Range, Reply, Rights, Text, ThreadId, ThreadPart,
+    UnitLine, Verdict, flat_step,
 };
 use std::alloc::Global;
 use std::test::Fail;
@@ -32,6 +32,9 @@ const GRANT: Item = Item {
     },
     rights: Rights::READ_WRITE,
 };
+
+// The threads that step, in order.
+const STEPS: [u8; 11] = [0, 0, 2, 2, 0, 1, 1, 3, 3, 3, 0];
 
 fn board(alloc: Global) -> Board
     ensures { result ≡ fixture.board }
@@ -160,21 +163,26 @@ fn access(kind: Kind, at: u32, verdict: Verdict) -> Logged {
     })
 }
 
-#[test]
-fn two_boxes_run_by_the_script(rt: HostRuntime) -> Result<(), Fail> {
-    let config = two_boxes(rt.alloc())?;
-    let mut machine = Machine::boot(rt.alloc(), config, Drive::Script, 1)?;
-    for t in [0, 0, 2, 2, 0, 1, 1, 3, 3, 3, 0] {
+// The machine of the two boxes after all steps.
+fn stepped_machine(alloc: Global) -> Result<Machine, OutOfMemory> {
+    let config = two_boxes(alloc)?;
+    let mut machine = Machine::boot(alloc, config, Drive::Script, 1)?;
+    for t in STEPS {
         step(&mut machine, ThreadId(t));
     }
-    assert_eq!(rt; machine.extra(), 0, "one event of a thread that had ended");
-    let (config, log) = machine.into_log();
-    assert_eq!(rt; config.threads.len(), 4);
+    Ok(machine)
+}
+
+fn wanted_items() -> [Logged; 21] {
     let fault = Reply::Fault {
         why: Flaw::Daccviol,
         at: 0x2000_0000,
     };
-    let want = [
+    let pair = Pair {
+        rbar: 0x4000_0080,
+        rasr: 0x1300_000D,
+    };
+    [
         switch(0),
         turn(0, Reply::Done),
         access(Kind::Write, 0x2000_0004, Verdict::Granted(1)),
@@ -187,13 +195,7 @@ fn two_boxes_run_by_the_script(rt: HostRuntime) -> Result<(), Fail> {
         access(Kind::Read, 0x2000_0004, Verdict::Granted(1)),
         turn(0, Reply::Value(0x2000_0000)),
         turn(1, Reply::Done),
-        Logged::Unit(UnitLine::Rotate {
-            slot: 2,
-            pair: Pair {
-                rbar: 0x4000_0080,
-                rasr: 0x1300_000D,
-            },
-        }),
+        Logged::Unit(UnitLine::Rotate { slot: 2, pair }),
         access(Kind::Read, 0x4000_00FC, Verdict::Granted(2)),
         turn(1, Reply::Value(0)),
         switch(1),
@@ -202,30 +204,68 @@ fn two_boxes_run_by_the_script(rt: HostRuntime) -> Result<(), Fail> {
         turn(3, Reply::Ended),
         switch(0),
         turn(0, Reply::Halted),
-    ];
-    assert_eq!(rt; log.items.as_slice(), want.as_slice());
-    let ends = [
-        End {
-            mode: Mode::Halted,
-            steps: 4,
-            regs: [0x2000_0000, 0x2000_0000, 0, 0, 0, 0, 0, 0],
-        },
-        End {
-            mode: Mode::Ready,
-            steps: 2,
-            regs: [0x4000_0020, 0, 0, 0, 0, 0, 0, 0],
-        },
-        End {
-            mode: Mode::Faulted,
-            steps: 2,
-            regs: [0x2000_0000, 0, 0, 0, 0, 0, 0, 0],
-        },
-        End {
-            mode: Mode::Spent,
-            steps: 2,
-            regs: [0, 1, 0, 0, 0, 0, 0, 0],
-        },
-    ];
-    assert_eq!(rt; log.ends.as_slice(), ends.as_slice());
+    ]
+}
+
+fn end(mode: Mode, steps: u32, regs: [u32; 8]) -> End {
+    End { mode, steps, regs }
+}
+
+fn wanted_ends() -> [End; 4] {
+    [
+        end(
+            Mode::Halted,
+            4,
+            [0x2000_0000, 0x2000_0000, 0, 0, 0, 0, 0, 0],
+        ),
+        end(Mode::Ready, 2, [0x4000_0020, 0, 0, 0, 0, 0, 0, 0]),
+        end(Mode::Faulted, 2, [0x2000_0000, 0, 0, 0, 0, 0, 0, 0]),
+        end(Mode::Spent, 2, [0, 1, 0, 0, 0, 0, 0, 0]),
+    ]
+}
+
+#[test]
+fn two_boxes_run_by_the_script(rt: HostRuntime) -> Result<(), Fail> {
+    let machine = stepped_machine(rt.alloc())?;
+    assert_eq!(rt; machine.extra(), 0, "one event of a thread that had ended");
+    let (config, log) = machine.into_log();
+    assert_eq!(rt; config.threads.len(), 4);
+    assert_eq!(rt; log.items.as_slice(), wanted_items().as_slice());
+    assert_eq!(rt; log.ends.as_slice(), wanted_ends().as_slice());
+    Ok(())
+}
+
+// The replies of a log's entries, in order.
+fn replies_of(alloc: Global, log: &Log) -> Result<Vec<Reply>, OutOfMemory> {
+    let mut replies = Vec::new(alloc);
+    for item in log.items.as_slice() {
+        if let Logged::Core(entry) = item {
+            replies.push(entry.reply)?;
+        }
+    }
+    Ok(replies)
+}
+
+// What the plain evaluator answers to the same steps.
+fn evaluated_replies(alloc: Global) -> Result<Vec<Reply>, OutOfMemory> {
+    let config = two_boxes(alloc)?;
+    let mut state = FlatState::opening(alloc, &config)?;
+    let mut replies = Vec::new(alloc);
+    for t in STEPS {
+        let choice = Choice::Turn {
+            t: ThreadId(t),
+            room: true,
+        };
+        replies.push(flat_step(&mut state, &config, &choice))?;
+    }
+    Ok(replies)
+}
+
+#[test]
+fn the_machine_replies_as_the_plain_evaluator(rt: HostRuntime) -> Result<(), Fail> {
+    let (_, log) = stepped_machine(rt.alloc())?.into_log();
+    let replies = replies_of(rt.alloc(), &log)?;
+    let evaluated = evaluated_replies(rt.alloc())?;
+    assert_eq!(rt; replies.as_slice(), evaluated.as_slice());
     Ok(())
 }
