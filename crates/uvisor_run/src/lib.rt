@@ -16,6 +16,8 @@ mod top;
 
 pub use acceptance::accept;
 pub use check_writing::write_check;
-pub use laws::{a_legal_log_is_the_log_of_its_choices, grants_need_no_history, legal_logs_are_named};
+pub use laws::{
+    a_legal_log_is_the_log_of_its_choices, grants_need_no_history, legal_logs_are_named,
+};
 pub use scripting::run_script;
 pub use top::scripted;
