@@ -5,7 +5,7 @@ use crate::tests::inputs::{Case, input_of, plain};
 use crate::{accept, run_script, write_check};
 use addr_base::{BoxId, Kind, ThreadId, Verdict};
 use flat_model::{Choice, Config, End, Entry, Flaw, Log, Logged, Mode, Reply, UnitLine};
-use std::alloc::Global;
+use std::alloc::{AllocError, Global};
 use std::process::Abort;
 use std::test::Fail;
 
@@ -52,8 +52,8 @@ fn end(mode: Mode, steps: u32, first: u32, second: u32) -> End {
     }
 }
 
-#[test]
-fn two_boxes_of_two_threads_leave_their_items(rt: HostRuntime) -> Result<(), Fail> {
+// Box a stores a word of its own memory in one thread and loads it in the other; box b may not load it.
+fn two_boxes(alloc: Global) -> Result<String, AllocError> {
     let first = [
         "set r0 0x20000010\nstore32 r0 r0 0",
         "load32 r1 r0 0x20000010",
@@ -65,7 +65,12 @@ fn two_boxes_of_two_threads_leave_their_items(rt: HostRuntime) -> Result<(), Fai
         boxes: &[plain("a", &first), plain("b", &second)],
         rest: "",
     };
-    let input = input_of(rt.alloc(), &case)?;
+    input_of(alloc, &case)
+}
+
+#[test]
+fn two_boxes_of_two_threads_leave_their_items(rt: HostRuntime) -> Result<(), Fail> {
+    let input = two_boxes(rt.alloc())?;
     let (_, log) = run_of(&rt, rt.alloc(), input.as_str())?;
     let fault = Reply::Fault {
         why: Flaw::Daccviol,
