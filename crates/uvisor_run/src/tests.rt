@@ -7,6 +7,7 @@ mod limits;
 mod prefixes;
 mod refusals;
 mod rounding;
+mod runs;
 mod secret;
 mod turns;
 mod words;

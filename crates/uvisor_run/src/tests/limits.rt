@@ -6,21 +6,11 @@ use std::test::Fail;
 // The most bytes that an input may have.
 const LIMIT: usize = 4_194_304;
 
-// A line of a comment.
-const COMMENT: &str = "# a comment line that says nothing about the box\n";
-
 // An input of the one box, and lines of comments behind it until it is so long.
 fn commented(alloc: Global, length: usize) -> Result<Vec<u8>, AllocError> {
     let mut bytes = Vec::from_slice(alloc, ONE_BOX.as_bytes())?;
-    while bytes.len() < length {
-        let room = length - bytes.len();
-        let line = COMMENT.as_bytes();
-        let piece = if room < line.len() {
-            &line[..room]
-        } else {
-            line
-        };
-        bytes.extend_from_slice(piece)?;
+    for i in bytes.len()..length {
+        bytes.push(if i % 64 == 63 { b'\n' } else { b'#' })?;
     }
     Ok(bytes)
 }

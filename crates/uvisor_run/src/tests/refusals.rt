@@ -97,6 +97,24 @@ fn a_wrong_program_line_is_refused(rt: HostRuntime) -> Result<(), Fail> {
     )
 }
 
+const CALL_CHECK: &str = "box a
+item rx 0x00000000 0x00100000
+item rw 0x20000000 0x00000100
+server 0
+thread a.0 steps 10000
+0 halt
+1 irq_return
+";
+
+const RING_CHECK: &str = "box a
+item rx 0x00000000 0x00100000
+item rw 0x20000000 0x00000100
+line 5 handler 0
+server 0
+thread a.0 steps 10000
+0 halt
+";
+
 #[test]
 fn what_the_machine_does_not_run_yet_is_refused_by_script_alone(
     rt: HostRuntime,
@@ -107,33 +125,17 @@ fn what_the_machine_does_not_run_yet_is_refused_by_script_alone(
         boxes: &[plain("a", &["halt\nirq_return"])],
         rest: "",
     };
-    let call_check = "box a
-item rx 0x00000000 0x00100000
-item rw 0x20000000 0x00000100
-server 0
-thread a.0 steps 10000
-0 halt
-1 irq_return
-";
     let ring = Case {
         script: &[("a.0", 1), ("ring 5", 1)],
         board: "",
         boxes: &[with_tables("a", &["halt"], LINE_FIVE)],
         rest: "",
     };
-    let ring_check = "box a
-item rx 0x00000000 0x00100000
-item rw 0x20000000 0x00000100
-line 5 handler 0
-server 0
-thread a.0 steps 10000
-0 halt
-";
     let call = input_of(rt.alloc(), &call)?;
     let ring = input_of(rt.alloc(), &ring)?;
     let table: [(&str, &str); 3] = [
-        (call.as_str(), call_check),
-        (ring.as_str(), ring_check),
+        (call.as_str(), CALL_CHECK),
+        (ring.as_str(), RING_CHECK),
         (SENSOR_BOARD, SENSOR_BOARD_CHECK),
     ];
     for (input, text) in table {

@@ -78,6 +78,28 @@ thread a.0 faulted 1 Z Z Z Z Z Z Z Z
     Ok(())
 }
 
+const FOUR_THREADS_LOG: &str = "unit switch a
+turn a.0 ok
+turn a.0 ok
+turn a.1 ok
+unit switch b
+turn b.1 ok 0x00000001
+unit switch a
+unit access write 4 0x20000010 slot 1
+turn a.0 ok
+unit access read 4 0x20000010 slot 1
+turn a.1 ok 0x00000007
+unit switch b
+turn b.0 ok
+unit access read 4 0x20000010 denied
+turn b.0 fault daccviol 0x20000010
+turn b.1 halted
+thread a.0 ready 3 0x20000010 0x00000007 Z Z Z Z Z Z
+thread a.1 ready 2 0x20000010 0x00000007 Z Z Z Z Z Z
+thread b.0 faulted 2 0x20000010 Z Z Z Z Z Z Z
+thread b.1 halted 2 Z Z 0x00000001 Z Z Z Z Z
+";
+
 #[test]
 fn two_boxes_of_two_threads_take_turns(rt: HostRuntime) -> Result<(), Fail> {
     let boxes = [
@@ -102,26 +124,5 @@ fn two_boxes_of_two_threads_take_turns(rt: HostRuntime) -> Result<(), Fail> {
         ("b.0", 2),
         ("b.1", 1),
     ];
-    let log = "unit switch a
-turn a.0 ok
-turn a.0 ok
-turn a.1 ok
-unit switch b
-turn b.1 ok 0x00000001
-unit switch a
-unit access write 4 0x20000010 slot 1
-turn a.0 ok
-unit access read 4 0x20000010 slot 1
-turn a.1 ok 0x00000007
-unit switch b
-turn b.0 ok
-unit access read 4 0x20000010 denied
-turn b.0 fault daccviol 0x20000010
-turn b.1 halted
-thread a.0 ready 3 0x20000010 0x00000007 Z Z Z Z Z Z
-thread a.1 ready 2 0x20000010 0x00000007 Z Z Z Z Z Z
-thread b.0 faulted 2 0x20000010 Z Z Z Z Z Z Z
-thread b.1 halted 2 Z Z 0x00000001 Z Z Z Z Z
-";
-    check_log(&rt, rt.alloc(), &alone(&script, &boxes), log)
+    check_log(&rt, rt.alloc(), &alone(&script, &boxes), FOUR_THREADS_LOG)
 }
