@@ -40,7 +40,7 @@ IsSound-sample = record {
     peripherals_bank = record { within = omega arith; ends = omega arith };
     peripherals_apart = apart_above sample_config.board.peripherals sample_config.board.flash (omega arith);
     peripherals_beside = apart_above sample_config.board.peripherals sample_config.board.sram (omega arith);
-    secret = tt;
+    secret = (record { power = (16, refl); enough = omega arith; aligned = refl }, (omega arith, omega arith));
     words = tt;
     words_once = tt;
     heap = tt;

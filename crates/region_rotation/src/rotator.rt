@@ -7,7 +7,7 @@ ghost use Rattle.flat_model.specs.declared.parts.BoxPart.{BoxPart};
 ghost use Rattle.flat_model.specs.declared.parts.Config.{Config};
 ghost use Rattle.flat_model.specs.Access.{may_access};
 ghost use Rattle.flat_model.specs.Decision.{decision, is_granted};
-ghost use Rattle.flat_model.specs.Plan.{first_serving, plan_of};
+ghost use Rattle.flat_model.specs.Plan.{REGIONS, first_serving, plan_of};
 ghost use Rattle.flat_model.specs.Sound.{IsSound};
 ghost use Rattle.flat_model.specs.UnitRun.{UnitState, entered, flushed, is_last, opening_unit, rotated};
 ghost use Rattle.region_rotation.specs.Ready.{IsHeapBelow, plan_at};
@@ -110,6 +110,14 @@ impl Rotator {
         self.last = Some(b);
         self.circle = FIRST;
         true
+    }
+
+    /// The pair in a slot.
+    pub fn pair(&self, slot: usize) -> Pair
+        requires { slot < REGIONS }
+        ensures { slice_get self.now.unit.pairs slot ≡ Some result }
+    {
+        self.unit.pair(slot)
     }
 
     /// What the unit says of an access.

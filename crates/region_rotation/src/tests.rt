@@ -14,6 +14,16 @@ const FLASH: Range = Range {
     len: 0x10_0000,
 };
 
+const CODE: Range = Range {
+    base: 0,
+    len: 0xF_0000,
+};
+
+const SECRET: Range = Range {
+    base: 0xF_0000,
+    len: 0x1_0000,
+};
+
 const OWN: Range = Range {
     base: 0x2000_0000,
     len: 0x100,
@@ -40,7 +50,7 @@ fn board(alloc: Global) -> Board
             base: 0x4000_0000,
             len: 0x10_0000,
         },
-        secret: None,
+        secret: Some(SECRET),
         words: Items::from_vec(Vec::new(alloc)),
         heap: None,
     }
@@ -49,8 +59,8 @@ fn board(alloc: Global) -> Board
 fn one_box(alloc: Global) -> Result<Config, OutOfMemory>
     ensures { IfOk result (λ cfg. cfg ≡ sample_config) }
 {
-    let flash = Item {
-        range: FLASH,
+    let code = Item {
+        range: CODE,
         rights: Rights::READ_EXECUTE,
     };
     let own = Item {
@@ -64,7 +74,7 @@ fn one_box(alloc: Global) -> Result<Config, OutOfMemory>
         first: 0,
         threads: 1,
         server: ThreadId(0),
-        items: Items::from_vec(vec![in alloc; flash, own, GRANT]?),
+        items: Items::from_vec(vec![in alloc; code, own, GRANT]?),
         grants: Items::from_vec(vec![in alloc; GRANT]?),
         irqs: Items::from_vec(Vec::new(alloc)),
     };
@@ -117,5 +127,35 @@ fn a_grant_of_seven_blocks_rotates_in_by_three_pairs(rt: HostRuntime) -> Result<
     assert_eq!(rt; rotator.decide(0, Kind::Fetch), Verdict::Granted(0));
     rotator.flush();
     assert_eq!(rt; rotator.decide(0x4000_0020, Kind::Read), Verdict::Denied);
+    Ok(())
+}
+
+#[test]
+fn a_switch_hides_the_secret_range_behind_the_last_slot(rt: HostRuntime) -> Result<(), Fail> {
+    let cfg = one_box(rt.alloc())?;
+    let mut rotator = Rotator::new(rt.alloc(), &cfg)?;
+    rotator.enter(BoxId(0));
+    let pairs = [
+        (0, 0x0600_0027),
+        (0x2000_0000, 0x1300_000F),
+        (0, 0),
+        (0, 0),
+        (0, 0),
+        (0, 0),
+        (0, 0),
+        (0x000F_0000, 0x1000_001F),
+    ];
+    for slot in 0..8 {
+        let (rbar, rasr) = pairs[slot];
+        assert_eq!(rt; rotator.pair(slot), Pair { rbar, rasr }, "slot {slot}");
+    }
+    for (a, verdict) in [
+        (0x000E_FFFF, Verdict::Granted(0)),
+        (0x000F_0000, Verdict::Denied),
+        (0x000F_FFFF, Verdict::Denied),
+        (0x0010_0000, Verdict::Denied),
+    ] {
+        assert_eq!(rt; rotator.decide(a, Kind::Read), verdict, "at {a}");
+    }
     Ok(())
 }
