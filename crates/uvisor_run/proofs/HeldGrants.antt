@@ -1,54 +1,43 @@
 -- The unit grants an access exactly where the acting box holds it, whatever happened before.
-use Rattle.std.proofs.Common.{◌≡◌, ℕ, ◌%◌, ◌<◌, Bool, true, false, ◌&&◌, not, cond, Option, Some, None, List, [], ◌∷◌, ◌++◌, refl, sym, ap, ◌∙◌, subst, length, arith}
+use Rattle.std.proofs.Common.{◌≡◌, ℕ, ◌%◌, Bool, true, false, not, cond, Option, Some, None, List, [], ◌∷◌, ◌++◌, refl, sym, ap, ◌∙◌}
 use Rattle.std.specs.List.{list_all, slice_get}
-use Rattle.std.proofs.lemmas.Option.{slice_get_within}
-use Rattle.std.proofs.lemmas.Bool.Decides.{nat_tests}
 use Rattle.std.proofs.lemmas.Bool.{and_from, eqb-true}
 use Rattle.std.proofs.lemmas.List.Folds.{list_all-append}
 use Rattle.addr_base.specs.declared.identity.BoxId.{BoxId}
-use Rattle.addr_base.specs.declared.identity.Line.{Line}
-use Rattle.addr_base.specs.declared.identity.ThreadId.{ThreadId}
-use Rattle.addr_base.specs.declared.identity.Ticket.{Ticket}
 use Rattle.addr_base.specs.declared.pairs.Pair.{Pair}
 use Rattle.flat_model.specs.declared.accesses.Access.{Access}
 use Rattle.flat_model.specs.declared.events.Choice.{Choice}
 use Rattle.flat_model.specs.declared.events.Choice.TheVariants as choice
-use Rattle.flat_model.specs.declared.events.Reply.{Reply}
 use Rattle.flat_model.specs.declared.events.UnitLine.{UnitLine}
 use Rattle.flat_model.specs.declared.events.UnitLine.TheVariants as line
-use Rattle.flat_model.specs.declared.events.Want.TheVariants as want
 use Rattle.flat_model.specs.declared.instructions.Instr.{Instr}
 use Rattle.flat_model.specs.declared.parts.BoxPart.{BoxPart}
 use Rattle.flat_model.specs.declared.parts.Config.{Config}
 use Rattle.flat_model.specs.declared.parts.ThreadPart.{ThreadPart}
 use Rattle.flat_model.specs.declared.states.Flat.{Flat}
 use Rattle.flat_model.specs.declared.states.ThreadState.{ThreadState}
-use Rattle.flat_model.specs.Access.{is_aligned, may_access}
+use Rattle.flat_model.specs.Access.{may_access}
 use Rattle.flat_model.specs.AccessRows.{access_of}
-use Rattle.flat_model.specs.Decision.{decision, is_granted}
-use Rattle.flat_model.specs.Legal.{agrees_with, is_agreed, is_fault}
 use Rattle.flat_model.specs.Log.{events_of}
 use Rattle.flat_model.specs.Plan.{plan_of}
 use Rattle.flat_model.specs.Sound.{IsSound}
-use Rattle.flat_model.specs.Step.{empties_slots, instruction_in, reply_to, step, touch_at, touch_by, touch_of, turn_at, turn_in}
+use Rattle.flat_model.specs.Step.{empties_slots, instruction_in, touch_at, touch_by, touch_of}
 use Rattle.flat_model.specs.Trace.{World, trace_of, world_after}
-use Rattle.flat_model.specs.UnitRun.{UnitState, access_line, access_lines, acting_box, actor_of, box_of_event, entered, flush_lines, is_last, lines_of_box, part_at, rotate_lines, rotated, rotating_pair, switch_lines, unit_lines}
-use Rattle.flat_model.specs.Want.{fits, fits_with_room, is_thread, next_instruction, want_at, want_in, want_of, want_of_instruction}
+use Rattle.flat_model.specs.UnitRun.{UnitState, access_line, access_lines, actor_of, box_of_event, entered, flush_lines, is_last, lines_of_box, part_at, rotate_lines, rotated, rotating_pair, switch_lines, unit_lines}
 use Rattle.flat_model.proofs.Granted.{IsReady-entered, granted-held}
 use Rattle.flat_model.proofs.HeldBytes.{IsSize}
 use Rattle.flat_model.proofs.Placed.{IsPlaced-from_sound}
 use Rattle.flat_model.proofs.TraceLemmas.{events_of-event}
-use Rattle.flat_model.proofs.AccessReplies.{access-size, aligned-parts, turn-fault, want-access}
-use Rattle.flat_model.proofs.ReadyWorlds.{IsWorldReady, home-of, step-fits, ready-world}
+use Rattle.flat_model.proofs.AccessReplies.{access-size, aligned-parts}
+use Rattle.flat_model.proofs.ReadyWorlds.{IsWorldReady, ready-world}
 use Rattle.flat_model.specs.declared.logs.Log.{Log}
 use Rattle.uvisor_run.specs.Laws.{are_granted_as_held, is_granted_as_held}
 use Rattle.flat_model.specs.Legal.{IsLegal}
 use Rattle.flat_model.specs.Log.{choices_of}
-use Rattle.flat_model.specs.OneLog.{entries_of_run, log_of_choices, woven_items}
-use Rattle.flat_model.specs.Run.{ends_of, opening_state, state_after_all}
+use Rattle.flat_model.specs.OneLog.{log_of_choices}
+use Rattle.flat_model.specs.Run.{opening_state}
 use Rattle.flat_model.specs.Step.{state_after}
 use Rattle.flat_model.specs.Trace.{opening_world}
-use Rattle.flat_model.specs.UnitRun.{lines_of_run, opening_unit}
 use Rattle.flat_model.proofs.LegalLogs.{legal-one_log}
 use Rattle.flat_model.proofs.ReadyWorlds.{IsWorldReady-opening}
 use Rattle.flat_model.proofs.TraceLemmas.{trace_of-woven}

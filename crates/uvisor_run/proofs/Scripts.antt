@@ -1,7 +1,7 @@
 -- How the words of a script are run, one after another.
 use Rattle.std.proofs.Common.{◌≡◌, ℕ, zero, suc, ◌+◌, ◌≤◌, true, not, List, [], ◌∷◌, ◌++◌, length, drop, Some, refl, sym, ap, ◌∙◌, subst, arith, append_assoc, append-nil}
 use Rattle.std.specs.List.{list_all, slice_get}
-use Rattle.std.proofs.lemmas.Bool.{and_parts, not-true, true≢false}
+use Rattle.std.proofs.lemmas.Bool.{and_parts}
 use Rattle.std.proofs.lemmas.Bool.Decides.{nat_tests}
 use Rattle.std.proofs.lemmas.List.{drop_all}
 use Rattle.addr_base.specs.declared.identity.ThreadId.{ThreadId}
@@ -12,12 +12,11 @@ use Rattle.flat_model.specs.declared.parts.ScriptWord.{ScriptWord}
 use Rattle.flat_model.specs.declared.parts.ScriptWord.TheVariants as word
 use Rattle.flat_model.specs.declared.states.Flat.{Flat}
 use Rattle.flat_model.specs.Log.{choices_of}
-use Rattle.flat_model.specs.Run.{opening_state}
 use Rattle.flat_model.specs.Script.{choice_of_thread, choice_of_word, choices_from, script_choices}
 use Rattle.flat_model.specs.Sound.{IsScriptWord, IsSound, is_ring_word}
 use Rattle.flat_model.specs.Step.{state_after}
 use Rattle.flat_model.specs.Today.{RunsToday, thread_runs_today}
-use Rattle.flat_model.specs.Trace.{World, event_items, world_after, world_reached}
+use Rattle.flat_model.specs.Trace.{World, world_after, world_reached}
 use Rattle.flat_model.proofs.Elements.{each-get}
 use Rattle.flat_model.proofs.TodayLemmas.{list_all-get}
 use Rattle.machine_core.specs.View.{MachineView, with_event, world_of}

@@ -1,24 +1,20 @@
 -- What is known of a run once something was told.
-use Rattle.std.proofs.Common.{◌≡◌, ℕ, suc, ◌+◌, ◌<◌, ◌≤◌, ◌≢◌, ◌⊎◌, Bool, true, false, List, [], ◌∷◌, ◌++◌, length, replicate, Option, Some, None, Result, Ok, Err, refl, sym, ◌∙◌, ap, subst, arith, inl, inr}
-use Rattle.std.specs.Prelude.{IfSome, nat_eq, nat_lt, if◌then◌else◌}
-use Rattle.std.proofs.lemmas.Bool.{cases_Bool, eqb-true, eqb-false, false≢true, lt-ltb}
+use Rattle.std.proofs.Common.{◌≡◌, ℕ, ◌+◌, ◌<◌, ◌≤◌, ◌≢◌, List, ◌++◌, length, replicate, Option, Some, None, refl, sym, ◌∙◌, ap, subst, arith}
+use Rattle.std.specs.Prelude.{if◌then◌else◌}
+use Rattle.std.proofs.lemmas.Bool.{lt-ltb}
 use Rattle.std.proofs.lemmas.List.{append-nil, length-append, length-replicate}
 use Rattle.std.proofs.lemmas.Option.{same_Some}
 use Rattle.std.specs.Io.KnownBytes.{IsAtEnd, append_known, prepend_known}
-use Rattle.flat_model.specs.declared.parts.Config.{Config}
-use Rattle.flat_model.specs.declared.refusals.Refused.{Refused}
 use Rattle.flat_model.specs.declared.refusals.Refused.TheVariants as refused
 use Rattle.flat_model.specs.OneLog.{script_log}
 use Rattle.flat_model.specs.Text.{text_of}
-use Rattle.io_edge.specs.Counts.{Rose}
 use Rattle.io_edge.specs.Taken.{Takes}
 use Rattle.uvisor_run.specs.declared.commands.Command.{Command}
-use Rattle.uvisor_run.specs.declared.commands.Command.TheVariants.{Check, Script}
+use Rattle.uvisor_run.specs.declared.commands.Command.TheVariants.{Script}
 use Rattle.uvisor_run.specs.Accept.{INPUT_LIMIT, config_of}
 use Rattle.uvisor_run.specs.RefusalText.{refusal_line}
 use Rattle.uvisor_run.specs.Headline.{IsAnswered, IsBroken, IsReadToEnd, IsScriptRun, IsServed, IsTold, WereLeft}
-use Rattle.uvisor_run.specs.Output.{Output, output_by, output_for, output_of, refused_output}
-use Rattle.uvisor_run.specs.Runnable.{is_runnable}
+use Rattle.uvisor_run.specs.Output.{Output, output_by, output_of, refused_output}
 
 -- a script was run
 pub script_run_of : (bytes : List ℕ) (left left_now written now : Option (List ℕ)) (before after : ℕ) → WereLeft left bytes → IsReadToEnd left_now → IsServed Script bytes → IsTold (output_of Script bytes) written now before after 0 → IsScriptRun left left_now written now

@@ -1,5 +1,5 @@
 -- How long the words of refusals are.
-use Rattle.std.proofs.Common.{ℕ, ◌≤◌, length, lit≤}
+use Rattle.std.proofs.Common.{◌≤◌, length, lit≤}
 use Rattle.board_map.specs.Keys.{key_name}
 use Rattle.flat_model.specs.declared.refusals.Key.{Key}
 use Rattle.flat_model.specs.declared.refusals.Key.TheVariants as key

@@ -1,5 +1,5 @@
 -- What is known of a run of the program, sentence by sentence.
-use Rattle.std.specs.Prelude.{◌≡◌, ◌≢◌, ℕ, true, ◌<◌, ◌≤◌, IfSome, Option, Some, None, List, [], Result, Ok, Err}
+use Rattle.std.specs.Prelude.{◌≡◌, ◌≢◌, ℕ, true, IfSome, Option, List, Ok}
 use Rattle.std.specs.Io.KnownBytes.{IsAtEnd, append_known}
 use Rattle.io_edge.specs.Counts.{Rose}
 use Rattle.io_edge.specs.Written.{WrotePart}

@@ -1,6 +1,5 @@
 use Rattle.std.proofs.Common.{arith}
 use Rattle.std.specs.List.{flat_map}
-use Rattle.io_edge.proofs.Written.{wrote-part}
 use Rattle.flat_model.specs.Placing.{common_range}
 use Rattle.flat_model.specs.Sound.{IsBox}
 use Rattle.run_log.proofs.Printing.{on_err}

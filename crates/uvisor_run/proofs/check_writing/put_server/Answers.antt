@@ -1,6 +1,6 @@
 use Rattle.io_edge.proofs.Written.{wrote_part-first}
 use Rattle.run_log.proofs.Printing.{on_err}
-use Rattle.uvisor_run.specs.CheckText.{box_line, server_line}
+use Rattle.uvisor_run.specs.CheckText.{server_line}
 use Rattle.uvisor_run.proofs.check_writing.put_server.Goals as goal
 
 pub returns-in_err-make_room-clause-err : goal.returns-in_err-make_room-clause-err

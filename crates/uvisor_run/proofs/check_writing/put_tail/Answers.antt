@@ -1,8 +1,7 @@
-use Rattle.std.proofs.Common.{◌-◌, ◌++◌}
-use Rattle.std.specs.List.{flat_map}
+use Rattle.std.proofs.Common.{◌-◌}
 use Rattle.std.proofs.lemmas.Result.{on_err_weaker, on_ok_weaker}
 use Rattle.run_log.proofs.Printing.{on_err}
-use Rattle.uvisor_run.specs.CheckText.{box_line, irq_text, item_text, server_line, threads_of_box, threads_text}
+use Rattle.uvisor_run.specs.CheckText.{server_line, threads_of_box, threads_text}
 use Rattle.uvisor_run.proofs.Checking.{part_first, part_then, put_then}
 use Rattle.uvisor_run.proofs.check_writing.put_tail.Goals as goal
 

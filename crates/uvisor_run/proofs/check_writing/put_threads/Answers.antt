@@ -1,8 +1,7 @@
 use Rattle.std.proofs.Common.{arith}
 use Rattle.flat_model.specs.Sound.{IsThread}
-use Rattle.io_edge.proofs.Written.{wrote-part}
 use Rattle.run_log.proofs.Printing.{on_err}
-use Rattle.uvisor_run.specs.CheckText.{program_text, thread_line, threads_text}
+use Rattle.uvisor_run.specs.CheckText.{threads_text}
 use Rattle.uvisor_run.proofs.Checking.{all_from_next, at_next, put_on, put_on_part}
 use Rattle.uvisor_run.proofs.check_writing.put_threads.Goals as goal
 

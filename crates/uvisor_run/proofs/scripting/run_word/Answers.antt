@@ -1,4 +1,4 @@
-use Rattle.std.proofs.Common.{◌≡◌, ap, sym, ◌∙◌}
+use Rattle.std.proofs.Common.{ap, sym, ◌∙◌}
 use Rattle.machine_core.specs.View.{MachineView, with_event, world_of}
 use Rattle.uvisor_run.proofs.Scripts.{thread_word}
 use Rattle.uvisor_run.proofs.scripting.run_word.Goals as goal
