@@ -2,45 +2,97 @@
 # Compares what the program and the outside tools print on the examples with the stored outputs, byte by byte.
 # Beside NAME.toml: NAME.log is the output of `script`, NAME.check that of `check`; in refused/, NAME.line is that of
 # `check`, and NAME.script-line that of `script` where `check` refuses nothing.
+# It runs the proved build where there is one, else an unproved build that it makes once for each command.
 # Prints 'N of N as stored', and ends with 1 where something differs.
 set -u
 top=$(cd "$(dirname "$0")/.." && pwd) || exit 1
 cd "$top" || exit 1
-run=scripts/uvisor
+proved=$top/crates/uvisor/out/uvisor
 same=0
 all=0
-actual=$(mktemp) || exit 1
-trap 'rm -f "$actual"' EXIT
+work=$(mktemp -d) || exit 1
+trap 'rm -rf "$work"' EXIT
 
-# compare STORED STATUS COMMAND..: standard input goes to the command
-compare() {
-    local stored=$1 wanted=$2
-    shift 2
+# key INPUT: the input's path as one word
+key() {
+    echo "${1//\//+}"
+}
+
+# run_proved COMMAND INPUT..: leaves the output and the status of each input in $work/COMMAND
+run_proved() {
+    local command=$1 input name
+    shift
+    for input in "$@"; do
+        name=$work/$command/$(key "$input")
+        "$proved" "$command" <"$input" >"$name" 2>/dev/null
+        echo $? >"$name.status"
+    done
+}
+
+# run_unproved COMMAND INPUT..: the same by one unproved build, which writes `== KEY` before each output
+run_unproved() {
+    local command=$1 input name status
+    shift
+    mkdir "$work/$command-inputs"
+    for input in "$@"; do
+        cp "$input" "$work/$command-inputs/$(key "$input")"
+    done
+    (cd crates/uvisor && rt try --cases "$work/$command-inputs" -- "$command") >"$work/told" 2>"$work/said"
+    awk -v folder="$work/$command" '/^== / { name = folder "/" substr($0, 4); printf "" >name; next } { print >name }' "$work/told"
+    sed -n 's/^case=\(.*\) run=ended status=\([0-9]*\) .*/\1 \2/p' "$work/said" |
+        while read -r name status; do echo "$status" >"$work/$command/$name.status"; done
+}
+
+# run COMMAND INPUT..: by the build that is there
+run() {
+    mkdir "$work/$1"
+    if [ -x "$proved" ]; then run_proved "$@"; else run_unproved "$@"; fi
+}
+
+# told STORED STATUS COMMAND INPUT: compares what `run` left with the stored output and the wanted status
+told() {
+    local stored=$1 wanted=$2 output
+    output=$work/$3/$(key "$4")
     all=$((all + 1))
-    "$@" >"$actual" 2>/dev/null
-    local status=$?
-    if [ "$status" -ne "$wanted" ]; then
-        echo "$stored: the status is $status, not $wanted"
-    elif ! cmp -s "$actual" "$stored"; then
-        echo "$stored: the output differs"
-        diff "$stored" "$actual" | head -n 5
+    if [ "$(cat "$output.status" 2>/dev/null)" != "$wanted" ]; then
+        echo "$stored: the status of $3 is not $wanted"
+    elif ! cmp -s "$output" "$stored"; then
+        echo "$stored: the output of $3 differs"
+        diff "$stored" "$output" | head -n 5
     else
         same=$((same + 1))
     fi
 }
 
-for input in examples/*.toml examples/faults/*.toml; do
+# tool STORED COMMAND..: compares what an outside tool prints; standard input goes to it
+tool() {
+    local stored=$1
+    shift
+    all=$((all + 1))
+    if "$@" 2>/dev/null | cmp -s - "$stored"; then
+        same=$((same + 1))
+    else
+        echo "$stored: the output of $1 differs"
+    fi
+}
+
+[ -x "$proved" ] || echo "run-examples: this is an unproved build ('rt run' in crates/uvisor makes the proved one)" >&2
+inputs=(examples/*.toml examples/faults/*.toml)
+refused=(examples/refused/*.toml)
+run script "${inputs[@]}" "${refused[@]}"
+run check "${inputs[@]}" "${refused[@]}"
+for input in "${inputs[@]}"; do
     name=${input%.toml}
-    [ -f "$name.log" ] && compare "$name.log" 0 "$run" script <"$input"
-    [ -f "$name.check" ] && compare "$name.check" 0 "$run" check <"$input"
-    [ -f "$name.map" ] && compare "$name.map" 0 scripts/memory-map <"$name.check"
-    [ -f "$name.slots" ] && compare "$name.slots" 0 scripts/slots-at "$input" "$name.log" "$(cat "$name.line-number")"
-    [ -f "$name.who" ] && compare "$name.who" 0 scripts/who-holds "$(cat "$name.address")" <"$name.check"
+    [ -f "$name.log" ] && told "$name.log" 0 script "$input"
+    [ -f "$name.check" ] && told "$name.check" 0 check "$input"
+    [ -f "$name.map" ] && tool "$name.map" scripts/memory-map <"$name.check"
+    [ -f "$name.slots" ] && tool "$name.slots" scripts/slots-at "$input" "$name.log" "$(cat "$name.line-number")"
+    [ -f "$name.who" ] && tool "$name.who" scripts/who-holds "$(cat "$name.address")" <"$name.check"
 done
-for input in examples/refused/*.toml; do
+for input in "${refused[@]}"; do
     name=${input%.toml}
-    [ -f "$name.line" ] && compare "$name.line" 1 "$run" check <"$input"
-    [ -f "$name.script-line" ] && compare "$name.script-line" 1 "$run" script <"$input"
+    [ -f "$name.line" ] && told "$name.line" 1 check "$input"
+    [ -f "$name.script-line" ] && told "$name.script-line" 1 script "$input"
 done
 echo "$same of $all as stored"
 [ "$same" -eq "$all" ]
