@@ -156,8 +156,7 @@ box_sound board common own t b text grants = record {
   grants = grants_sound board common grants.first grants.second b text.grants grants.good grants.within;
   grants_apart = grants_apart grants.third b grants.apart;
   few_grants = subst (λ n. n ≤ 64) (sym (length-map b.grants grant_item)) text.few_grants;
-  few_lines = text.few_lines;
-  lines = all_weaker IsIrq (λ irq. (irq.line.0 < 64) × (irq.handler < 65536)) (λ irq is. (is.line, is.handler)) b.irqs text.lines;
+  lines = all_weaker IsIrq (λ irq. irq.line.0 < 64) (λ irq is. is.line) b.irqs text.lines;
 }
 
 -- the boxes are sound, each for itself

@@ -18,7 +18,7 @@ use Rattle.flat_model.specs.declared.texts.RegText.{RegText}
 use Rattle.flat_model.specs.declared.texts.RpcText.{RpcText}
 use Rattle.flat_model.specs.Names.{AreDistinctNames}
 use Rattle.flat_model.specs.Placing.{common_range, limit_of}
-use Rattle.flat_model.specs.Sound.{AreDistinct, IsBox, IsRegister, IsScriptWord, IsSound, IsWithinLimits}
+use Rattle.flat_model.specs.Sound.{AreDistinct, IsBox, IsRegisterGate, IsScriptWord, IsSound, IsWithinLimits}
 use Rattle.flat_model.specs.Want.{is_owned_line}
 use Rattle.acl_resolver.specs.Naming.{all_named, bad_device, bad_device_at, bad_gateway, bad_register, bad_register_at, box_named, is_owned, is_register_address, script_words, word_of_text}
 use Rattle.acl_resolver.specs.Refusals.{bad_grant, bad_grant_of, common_behind, first_numbered, grant_outside, is_line_of_some, line_taken, no_room, outside_of, self_overlap, self_overlap_of}
@@ -123,17 +123,17 @@ all_boxes parts is none =
     subst (λ (common : Range). AllByRecursion (IsBox parts.board common) (box_parts parts.board parts.board.sram.base 0 parts.boxes)) (sym (common_same parts.board parts.boxes))
     (boxes_sound parts.board (common_behind parts.board parts.boxes) parts.board.sram.base 0 parts.boxes is.boxes (granted parts none))
 
-register_sound : (board : Board) (boxes : List BoxText) (k : ℕ) (gate : RegText) → bad_register_at board boxes k gate ≡ None → IsRegister board (register_gate boxes gate)
+register_sound : (board : Board) (boxes : List BoxText) (k : ℕ) (gate : RegText) → bad_register_at board boxes k gate ≡ None → IsRegisterGate board (register_gate boxes gate)
 register_sound board boxes k gate h =
     let good = not-false (is_register_address board gate.at && all_named boxes gate.boxes) (not_refused (not (is_register_address board gate.at && all_named boxes gate.boxes)) _ h) in
     let address = and_parts (is_register_address board gate.at) (all_named boxes gate.boxes) good in
     let both = and_parts (nat_eq (gate.at % 4) 0) (holds_bytes board.peripherals gate.at 4) address.0 in
     record { aligned = eqb-true (gate.at % 4) 0 both.0; placed = both.1 }
 
-all_registers : (parts : Parts) → AreUnrefused parts → AllByRecursion (IsRegister parts.board) (map (register_gate parts.boxes) parts.gates.registers)
+all_registers : (parts : Parts) → AreUnrefused parts → AllByRecursion (IsRegisterGate parts.board) (map (register_gate parts.boxes) parts.gates.registers)
 all_registers parts none =
-    all_made (register_gate parts.boxes) (IsRegister parts.board) parts.gates.registers
-    (each_numbered (bad_register_at parts.board parts.boxes) (λ gate. IsRegister parts.board (register_gate parts.boxes gate))
+    all_made (register_gate parts.boxes) (IsRegisterGate parts.board) parts.gates.registers
+    (each_numbered (bad_register_at parts.board parts.boxes) (λ gate. IsRegisterGate parts.board (register_gate parts.boxes gate))
     (register_sound parts.board parts.boxes) 0 parts.gates.registers none.registers)
 
 all_gateways : (n : ℕ) (boxes : List BoxText) (gateways : List RpcText) → n ≡ length boxes → 1 ≤ length boxes
@@ -174,7 +174,6 @@ configuration_sound parts is h =
     let limit = board_limit parts.board is.board in
     let base = parts.board.sram.base in
     record {
-      version = refl;
       limits = limits parts is;
       board = is.board;
       names_once = subst AreDistinctNames (sym (boxes_named parts.board base 0 parts.boxes)) is.names_once;

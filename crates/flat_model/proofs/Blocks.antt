@@ -6,7 +6,7 @@ use Rattle.std.proofs.lemmas.Bool.{cases_lt, and_parts, and_from, false≢true, 
 use Rattle.std.proofs.lemmas.Bool.Decides.{nat_tests}
 use Rattle.std.proofs.Math.Nat.{pow-le-pow_right}
 use Rattle.flat_model.specs.Greatest.{greatest, Says}
-use Rattle.flat_model.specs.Cover.{Block, fits, exponent, blocks}
+use Rattle.flat_model.specs.Cover.{Block, block_fits, exponent, blocks}
 use Rattle.flat_model.proofs.Greatness.{Says-greatest}
 use Rattle.flat_model.proofs.Powers.{double, divides_below, smaller, at_least_32, divides_next, divides_double}
 
@@ -24,13 +24,13 @@ pub record IsSpan (p e : ℕ) : Type 0 where
   pub high : e % 32 ≡ 0
   pub limit : e < 2 ^ 32
 
-fits_at : (p e k : ℕ) → 5 ≤ k → p % 2 ^ k ≡ 0 → p + 2 ^ k ≤ e → fits p e k ≡ true
+fits_at : (p e k : ℕ) → 5 ≤ k → p % 2 ^ k ≡ 0 → p + 2 ^ k ≤ e → block_fits p e k ≡ true
 fits_at p e k enough whole within =
     and_from (nat_le 5 k && nat_eq (p % 2 ^ k) 0) (nat_le (p + 2 ^ k) e)
     (and_from (nat_le 5 k) (nat_eq (p % 2 ^ k) 0) (le-leb 5 k enough) (eq-eqb (p % 2 ^ k) 0 whole))
     (le-leb (p + 2 ^ k) e within)
 
-IsLargest-from_says : (p e : ℕ) (o : Option ℕ) → IsSpan p e → p < e → Says (fits p e) 32 o → IsLargest p e (unwrap_or o 5)
+IsLargest-from_says : (p e : ℕ) (o : Option ℕ) → IsSpan p e → p < e → Says (block_fits p e) 32 o → IsLargest p e (unwrap_or o 5)
 IsLargest-from_says p e None span before says =
     absurd (false≢true (sym (says 5 (omega arith)) ∙ fits_at p e 5 (omega arith) span.low (omega (arith, span.low, span.high))))
 IsLargest-from_says p e (Some k) span before says =
@@ -48,7 +48,7 @@ IsLargest-from_says p e (Some k) span before says =
     }
 
 pub IsLargest-exponent : (p e : ℕ) → IsSpan p e → p < e → IsLargest p e (exponent p e)
-IsLargest-exponent p e span before = IsLargest-from_says p e (greatest (fits p e) 32) span before (Says-greatest (fits p e) 32)
+IsLargest-exponent p e span before = IsLargest-from_says p e (greatest (block_fits p e) 32) span before (Says-greatest (block_fits p e) 32)
 
 -- a multiple of a power of at least 32 is a multiple of 32
 whole_32 : (p k : ℕ) → 5 ≤ k → p % 2 ^ k ≡ 0 → p % 32 ≡ 0

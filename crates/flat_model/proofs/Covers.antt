@@ -10,7 +10,7 @@ use Rattle.addr_base.specs.declared.pairs.Pair.{Pair}
 use Rattle.addr_base.specs.declared.ranges.Range.{Range}
 use Rattle.addr_base.specs.declared.rights.Kind.{Kind}
 use Rattle.addr_base.specs.declared.rights.Rights.{Rights}
-use Rattle.flat_model.specs.Cover.{Block, NO_ACCESS, access_of, attributes, block_pair, cover_blocks, cover_of, exponent_of, never_of, pair_of}
+use Rattle.flat_model.specs.Cover.{Block, NO_ACCESS, permission_of, attributes, block_pair, cover_blocks, cover_of, exponent_of, never_of, pair_of}
 use Rattle.flat_model.specs.Decision.{is_region, matches, pair_gives}
 use Rattle.flat_model.proofs.Blocks.{IsBlock, IsSpan, each-blocks, in_block, length-blocks, list_any-blocks}
 use Rattle.flat_model.proofs.Elements.{each-map}
@@ -35,14 +35,14 @@ block_fields block access never enough limit accesses nevers =
     HasFields-from_rasr (block_pair (1 + 2 ^ 24 * access + 2 ^ 28 * never) block) (block.exponent - 1) 0 access never
     (omega arith) (omega arith) accesses nevers (omega arith)
 
-access_below : (rights : Rights) → access_of rights < 8
+access_below : (rights : Rights) → permission_of rights < 8
 access_below rights = below (may_write rights)
   where
     below : (w : Bool) → (if w then 3 else 6) < 8
     below true = omega arith
     below false = omega arith
 
-access_known : (rights : Rights) → access_of rights ≢ 4
+access_known : (rights : Rights) → permission_of rights ≢ 4
 access_known rights = known (may_write rights)
   where
     known : (w : Bool) → (let access : ℕ = if w then 3 else 6 in access ≢ 4)
@@ -56,14 +56,14 @@ never_below rights = below (may_execute rights)
     below true = omega arith
     below false = omega arith
 
-pub rights_fields : (block : Block) (rights : Rights) → 5 ≤ block.exponent → block.exponent < 32 → HasFields (block_pair (attributes rights) block) (block.exponent - 1) 0 (access_of rights) (never_of rights)
+pub rights_fields : (block : Block) (rights : Rights) → 5 ≤ block.exponent → block.exponent < 32 → HasFields (block_pair (attributes rights) block) (block.exponent - 1) 0 (permission_of rights) (never_of rights)
 rights_fields block rights enough limit =
-    block_fields block (access_of rights) (never_of rights) enough limit (access_below rights) (never_below rights)
+    block_fields block (permission_of rights) (never_of rights) enough limit (access_below rights) (never_below rights)
 
 -- a block's region has the block's addresses
 pub matches-block : (block : Block) (rights : Rights) → 5 ≤ block.exponent → block.exponent < 32 → (a : ℕ) → matches (block_pair (attributes rights) block) a ≡ in_block block a
 matches-block block rights enough limit a =
-    matches-plain (block_pair (attributes rights) block) block.exponent (access_of rights) (never_of rights) enough
+    matches-plain (block_pair (attributes rights) block) block.exponent (permission_of rights) (never_of rights) enough
     (rights_fields block rights enough limit) a
 
 -- a pair of the cover of a range
@@ -77,7 +77,7 @@ OfCover-block range rights reads block it =
     let has = rights_fields block rights it.enough it.limit in
     let p : Pair = block_pair (attributes rights) block in
     record {
-      valid = is_region-fields p block.exponent 0 (access_of rights) (never_of rights) it.enough (inr refl) (access_known rights) has it.whole;
+      valid = is_region-fields p block.exponent 0 (permission_of rights) (never_of rights) it.enough (inr refl) (access_known rights) has it.whole;
       given = pair_gives-attributes p (block.exponent - 1) 0 rights reads has;
       inside = λ a found.
           let here = and_parts (nat_le block.base a) (nat_lt a (block.base + 2 ^ block.exponent)) (sym (matches-block block rights it.enough it.limit a) ∙ found) in
@@ -135,11 +135,11 @@ is_region-pair_of range access never accesses known nevers it =
 
 pub matches-pair_of_rights : (range : Range) (rights : Rights) → IsOneBlock range → (a : ℕ) → matches (pair_of range (attributes rights)) a ≡ in_range range a
 matches-pair_of_rights range rights it a =
-    matches-pair_of range (access_of rights) (never_of rights) (access_below rights) (never_below rights) it a
+    matches-pair_of range (permission_of rights) (never_of rights) (access_below rights) (never_below rights) it a
 
 pub is_region-pair_of_rights : (range : Range) (rights : Rights) → IsOneBlock range → is_region (pair_of range (attributes rights)) ≡ true
 is_region-pair_of_rights range rights it =
-    is_region-pair_of range (access_of rights) (never_of rights) (access_below rights) (access_known rights) (never_below rights) it
+    is_region-pair_of range (permission_of rights) (never_of rights) (access_below rights) (access_known rights) (never_below rights) it
 
 pub pair_gives-pair_of_rights : (range : Range) (rights : Rights) → may_read rights ≡ true → IsOneBlock range → (kind : Kind) → pair_gives (pair_of range (attributes rights)) kind ≡ gives rights kind
 pair_gives-pair_of_rights range rights reads it kind =

@@ -9,7 +9,7 @@ use Rattle.addr_base.specs.declared.pairs.Pair.{Pair}
 use Rattle.addr_base.specs.declared.rights.Kind.{Kind}
 use Rattle.addr_base.specs.declared.rights.Kind.TheVariants.{Read, Write, Fetch}
 use Rattle.addr_base.specs.declared.rights.Rights.{Rights}
-use Rattle.flat_model.specs.Cover.{access_of, exponent_of, never_of}
+use Rattle.flat_model.specs.Cover.{permission_of, exponent_of, never_of}
 use Rattle.flat_model.specs.Decision.{enable_field, size_field, subregions, access_field, never_field, has_zero_rest, is_enabled, is_disabled, is_region, matches, pair_gives}
 use Rattle.flat_model.proofs.Powers.{smaller}
 
@@ -75,7 +75,7 @@ is_region-fields p k srd access never enough subs known has whole =
     rw (on, large, len, based, allowed, parts, has.rest) refl
 
 -- what the rights' regions give
-pub pair_gives-attributes : (p : Pair) (size srd : ℕ) (rights : Rights) → may_read rights ≡ true → HasFields p size srd (access_of rights) (never_of rights) → (kind : Kind) → pair_gives p kind ≡ gives rights kind
+pub pair_gives-attributes : (p : Pair) (size srd : ℕ) (rights : Rights) → may_read rights ≡ true → HasFields p size srd (permission_of rights) (never_of rights) → (kind : Kind) → pair_gives p kind ≡ gives rights kind
 pair_gives-attributes p size srd rights reads has Read = rw (has.access_is, reads) (readable (may_write rights))
   where
     readable : (w : Bool) → (let access : ℕ = if w then 3 else 6 in nat_eq access 2 || nat_eq access 3 || nat_eq access 6 || nat_eq access 7) ≡ true

@@ -28,9 +28,12 @@ pub mod Powers
 pub mod ReadyWorlds
 pub mod Recovered
 pub mod Recovery
+pub mod RunWords
+pub mod SoundRun
 pub mod Suited
 pub mod TodayLemmas
 pub mod TraceLemmas
 pub mod Turning
 pub mod WantLemmas
 pub mod Widths
+pub mod WorkedRuns

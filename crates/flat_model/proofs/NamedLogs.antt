@@ -1,5 +1,5 @@
 -- A legal log over a sound configuration names what is there.
-use Rattle.std.proofs.Common.{◌≡◌, ℕ, ◌-◌, ◌<◌, Bool, true, false, List, [], ◌∷◌, ◌++◌, length, map, Option, Some, None, refl, sym, ◌∙◌, ap, subst, arith, inl, inr}
+use Rattle.std.proofs.Common.{◌≡◌, ℕ, ◌-◌, Bool, true, false, List, [], ◌∷◌, ◌++◌, length, map, Option, Some, None, refl, sym, ◌∙◌, ap, subst, arith, inl, inr}
 use Rattle.std.specs.Prelude.{MatchOption, if◌then◌else◌, slice_get}
 use Rattle.std.specs.List.{AllByRecursion, list_all}
 use Rattle.std.proofs.lemmas.Bool.{cases_Bool, lt-ltb}
@@ -22,7 +22,6 @@ use Rattle.flat_model.specs.declared.instructions.Instr.TheVariants as instr
 use Rattle.flat_model.specs.declared.logs.Log.{Log}
 use Rattle.flat_model.specs.declared.parts.BoxPart.{BoxPart}
 use Rattle.flat_model.specs.declared.parts.Config.{Config}
-use Rattle.flat_model.specs.declared.parts.IrqPart.{IrqPart}
 use Rattle.flat_model.specs.declared.parts.ThreadPart.{ThreadPart}
 use Rattle.flat_model.specs.declared.states.Flat.{Flat}
 use Rattle.flat_model.specs.declared.states.ThreadState.{ThreadState}
@@ -36,7 +35,7 @@ use Rattle.flat_model.specs.OneLog.{entries_of_run, log_of_choices, woven_items}
 use Rattle.flat_model.specs.Outcome.{Outcome}
 use Rattle.flat_model.specs.Placing.{common_range}
 use Rattle.flat_model.specs.Plan.{REGIONS, plan_of}
-use Rattle.flat_model.specs.Run.{LINES, end_of_thread, opening_state, state_after_all}
+use Rattle.flat_model.specs.Run.{end_of_thread, opening_state, state_after_all}
 use Rattle.flat_model.specs.Sound.{IsBox, IsSound}
 use Rattle.flat_model.specs.Step.{empties_slots, fitting_step, instruction_in, reply_to, serve_at, server_row, settled, state_after, step, touch_at, touch_of, turn_at, turn_in}
 use Rattle.flat_model.specs.Thread.{counted, opening_thread}
@@ -264,7 +263,7 @@ weaker P Q each (x ∷ xs) all = (each x all.0, weaker P Q each xs all.1)
 sound-lines : (cfg : Config) → IsSound cfg → HasNamedLines cfg
 sound-lines cfg sound =
     weaker (IsBox cfg.board (common_range cfg.board cfg.boxes)) (λ part. HasLines part.irqs)
-    (λ part it. weaker (λ (irq : IrqPart). (irq.line.0 < 64) × (irq.handler < 65536)) (λ irq. irq.line.0 < LINES) (λ irq both. both.0) part.irqs it.lines)
+    (λ part it. it.lines)
     cfg.boxes sound.boxes
 
 -- a legal log over a sound configuration is named

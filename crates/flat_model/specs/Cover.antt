@@ -10,8 +10,8 @@ use Rattle.addr_base.specs.declared.rights.Rights.{Rights}
 use Rattle.flat_model.specs.Greatest.{greatest}
 
 -- AP of the rights: unprivileged code may read, and write where the rights say so
-abbrev pub access_of : Rights → ℕ
-access_of rights = if may_write rights then 3 else 6
+abbrev pub permission_of : Rights → ℕ
+permission_of rights = if may_write rights then 3 else 6
 
 -- XN of the rights: set where they have no right to execute
 abbrev pub never_of : Rights → ℕ
@@ -19,7 +19,7 @@ never_of rights = if may_execute rights then 0 else 1
 
 -- RASR of the rights without SIZE and SRD: enabled, XN in bit 28, AP in bits 26 to 24
 abbrev pub attributes : Rights → ℕ
-attributes rights = 1 + 2 ^ 24 * access_of rights + 2 ^ 28 * never_of rights
+attributes rights = 1 + 2 ^ 24 * permission_of rights + 2 ^ 28 * never_of rights
 
 -- RASR of a region that gives unprivileged code nothing, without SIZE and SRD
 abbrev pub NO_ACCESS : ℕ
@@ -31,12 +31,12 @@ pub record Block : Type 0 where
   pub exponent : ℕ
 
 -- whether a block of 2 ^ k bytes has at least 32, may begin at p and ends by e
-abbrev pub fits : ℕ → ℕ → ℕ → Bool
-fits p e k = nat_le 5 k && nat_eq (p % 2 ^ k) 0 && nat_le (p + 2 ^ k) e
+abbrev pub block_fits : ℕ → ℕ → ℕ → Bool
+block_fits p e k = nat_le 5 k && nat_eq (p % 2 ^ k) 0 && nat_le (p + 2 ^ k) e
 
 -- the exponent of the largest block that fits at p before e
 abbrev pub exponent : ℕ → ℕ → ℕ
-exponent p e = unwrap_or (greatest (fits p e) 32) 5
+exponent p e = unwrap_or (greatest (block_fits p e) 32) 5
 
 -- the first n touching blocks from p to e, each the largest that fits
 unfoldable pub blocks : ℕ → ℕ → ℕ → List Block

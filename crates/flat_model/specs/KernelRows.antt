@@ -145,7 +145,7 @@ rpc_post_row who m th after (Some gate) =
     then record { shared = record m { calls = m.calls ++ call_by who th gate ∷ [] }; thread = after; reply = reply.Posted (th.count + 1) }
     else refused_row m th 3
 
--- `rpc_take` as a turn: not the server, or in a call; a server in no call has no turn here, and its row is empty
+-- `rpc_take` as a turn: not the server, or in a call; a server in no call has no turn here, so its row is never reached
 abbrev pub rpc_take_row : Shared → ThreadState → Bool → Option Ticket → Outcome
 rpc_take_row m th false serving = refused_row m th 9
 rpc_take_row m th true (Some ticket) = refused_row m th 11

@@ -121,8 +121,7 @@ pub record IsBox (board : Board) (common : Range) (part : BoxPart) : Type 0 wher
   pub grants : AllByRecursion (IsGrant board common) part.grants
   pub grants_apart : AreGrantsApart part.grants
   pub few_grants : length part.grants ≤ 64
-  pub few_lines : length part.irqs ≤ 64
-  pub lines : AllByRecursion (λ irq. (irq.line.0 < 64) × (irq.handler < 65536)) part.irqs
+  pub lines : AllByRecursion (λ irq. irq.line.0 < 64) part.irqs
 
 -- a thread with its budget and a program of valid instructions
 pub record IsThread (thread : ThreadPart) : Type 0 where
@@ -132,7 +131,7 @@ pub record IsThread (thread : ThreadPart) : Type 0 where
   pub valid : AllByRecursion IsValidInstr thread.program
 
 -- a register gateway at a word of the peripherals
-pub record IsRegister (board : Board) (gate : RegGate) : Type 0 where
+pub record IsRegisterGate (board : Board) (gate : RegGate) : Type 0 where
   pub aligned : gate.at % 4 ≡ 0
   pub placed : holds_bytes board.peripherals gate.at 4 ≡ true
 
@@ -166,7 +165,6 @@ pub record IsWithinLimits (cfg : Config) : Type 0 where
 
 -- what every accepted input gives
 pub record IsSound (cfg : Config) : Type 0 where
-  pub version : cfg.version ≡ 1
   pub limits : IsWithinLimits cfg
   pub board : IsBoard cfg.board
   pub names_once : AreDistinctNames (map (λ part. part.name) cfg.boxes)
@@ -178,7 +176,7 @@ pub record IsSound (cfg : Config) : Type 0 where
   pub room : placed_end cfg.board.sram.base cfg.boxes ≤ limit_of cfg.board
   pub one_owner : count_by (λ part. part.secret) cfg.boxes ≤ 1
   pub lines_once : AreDistinct (named_lines cfg)
-  pub registers : AllByRecursion (IsRegister cfg.board) cfg.registers
+  pub registers : AllByRecursion (IsRegisterGate cfg.board) cfg.registers
   pub gateways : AllByRecursion (λ gate. gate.target.0 < length cfg.boxes) cfg.gateways
   pub devices : AllByRecursion (λ device. AllByRecursion (λ line. is_owned_line cfg line.0 ≡ true) device.rings) cfg.devices
   pub script : AllByRecursion (IsScriptWord cfg) cfg.script

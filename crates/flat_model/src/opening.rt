@@ -16,13 +16,21 @@ use std::alloc::Global;
 // How many interrupt lines there are.
 const LINES: usize = 64;
 
+// So many zero bytes.
+fn zero_bytes(alloc: Global, n: usize) -> Result<Items<u8>, OutOfMemory>
+    ensures { IfOk result (λ bytes. bytes ≡ replicate n 0) }
+{
+    let bytes = vec![in alloc; 0; n]?;
+    Ok(Items::from_vec(bytes))
+}
+
 // Memory of zero bytes.
 fn blank_memory(alloc: Global, board: &Board) -> Result<Memory, OutOfMemory>
     ensures { IfOk result (λ memory. memory ≡ memory_words.blank_memory board.now) }
 {
-    let flash = Items::filled(alloc, 0, board.flash.len as usize)?;
-    let sram = Items::filled(alloc, 0, board.sram.len as usize)?;
-    let peripherals = Items::filled(alloc, 0, board.peripherals.len as usize)?;
+    let flash = zero_bytes(alloc, board.flash.len as usize)?;
+    let sram = zero_bytes(alloc, board.sram.len as usize)?;
+    let peripherals = zero_bytes(alloc, board.peripherals.len as usize)?;
     Ok(Memory {
         flash,
         sram,

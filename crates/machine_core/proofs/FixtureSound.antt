@@ -54,7 +54,6 @@ first_box = record {
   grants = (record { tiled = record { enough = omega arith; base = refl; len = refl }; rights = inr (inl refl); placed = inl (omega arith, omega arith) }, tt);
   grants_apart = (tt, tt);
   few_grants = omega arith;
-  few_lines = omega arith;
   lines = tt;
 }
 
@@ -65,7 +64,6 @@ second_box = record {
   grants = tt;
   grants_apart = tt;
   few_grants = omega arith;
-  few_lines = omega arith;
   lines = tt;
 }
 
@@ -107,7 +105,6 @@ threads_are = (
 -- the configuration of the tests is sound
 pub sound : IsSound fixture.two_boxes
 sound = record {
-  version = refl;
   limits = limits;
   board = board_is;
   names_once = (refl, (refl, tt));

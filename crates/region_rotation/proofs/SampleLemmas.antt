@@ -16,7 +16,6 @@ apart_above first second order = λ a here. false_from_ne_true (in_range second 
 
 pub IsSound-sample : IsSound sample_config
 IsSound-sample = record {
-  version = refl;
   limits = record {
     some_box = omega arith;
     boxes = omega arith;
@@ -60,7 +59,6 @@ IsSound-sample = record {
       );
       grants_apart = (tt, tt);
       few_grants = omega arith;
-      few_lines = omega arith;
       lines = tt;
     },
     tt,

@@ -17,7 +17,6 @@ apart_above first second order = λ a here. false_from_ne_true (in_range second 
 -- the configuration of the tests is sound
 pub IsSound-sample : IsSound sample_config
 IsSound-sample = record {
-  version = refl;
   limits = record {
     some_box = omega arith;
     boxes = omega arith;
@@ -54,7 +53,6 @@ IsSound-sample = record {
       grants = tt;
       grants_apart = tt;
       few_grants = omega arith;
-      few_lines = omega arith;
       lines = tt;
     },
     tt,
