@@ -1,4 +1,4 @@
-ghost use Rattle.std.specs.Prelude.{◌≡◌, ◌++◌, ◌∷◌, [], None, IfOk, IfErr, OnOk, map, string_bytes};
+ghost use Rattle.std.specs.Prelude.{◌≡◌, ◌++◌, ◌∷◌, [], None, IfOk, IfErr, OnOk, map};
 ghost use Rattle.std.specs.List.{filter_map};
 ghost use Rattle.flat_model.specs.First.{number};
 ghost use Rattle.acl_resolver.specs.Naming.{bad_word_at, word_of_text};
@@ -48,18 +48,18 @@ fn push_word(words: &mut Vec<ScriptWord>, word: ScriptWord) -> Result<(), Config
 pub fn script_of(
     alloc: Global,
     table: &[Spelled],
-    script: &[String],
+    script: &[&str],
 ) -> Result<Vec<ScriptWord>, ConfigErr>
-    ensures none { let texts = map string_bytes script.now in
+    ensures none { let texts = map (λ text. text.now) script.now in
         OnOk result (first_numbered (bad_word_at table.now) 0 texts ≡ None) }
-    ensures ok { let texts = map string_bytes script.now in
+    ensures ok { let texts = map (λ text. text.now) script.now in
         IfOk result (λ v. v.items ≡ filter_map (word_of_text table.now) texts) }
-    ensures err { let texts = map string_bytes script.now in
+    ensures err { let texts = map (λ text. text.now) script.now in
         IfErr result (IsDue (first_numbered (bad_word_at table.now) 0 texts)) }
 {
     let mut words = Vec::new(alloc);
     for (at, text) in script.iter().enumerate() {
-        let word = word_at(table, at, text.as_str())?;
+        let word = word_at(table, at, *text)?;
         push_word(&mut words, word)?;
     }
     Ok(words)

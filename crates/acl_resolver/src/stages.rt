@@ -1,4 +1,4 @@
-ghost use Rattle.std.specs.Prelude.{◌≡◌, ◌≤◌, None, IfOk, IfErr, OnOk, length, map, string_bytes};
+ghost use Rattle.std.specs.Prelude.{◌≡◌, ◌≤◌, None, IfOk, IfErr, OnOk, length, map};
 ghost use Rattle.std.specs.Option.{option_or};
 ghost use Rattle.addr_base.specs.Range.{ADDRESS_END};
 ghost use Rattle.flat_model.specs.Placing.{limit_of};
@@ -94,12 +94,12 @@ fn script_words_of(
     alloc: Global,
     boxes: &[BoxText],
     devices: &[DevicePart],
-    script: &[String],
+    script: &[&str],
 ) -> Result<Vec<ScriptWord>, ConfigErr>
     requires { threads_of boxes.now ≤ 16 }
-    ensures none { OnOk result (words_refusal boxes.now devices.now (map string_bytes script.now) ≡ None) }
-    ensures ok { IfOk result (λ v. v.items ≡ words_of boxes.now (map string_bytes script.now)) }
-    ensures err { IfErr result (IsDue (words_refusal boxes.now devices.now (map string_bytes script.now))) }
+    ensures none { OnOk result (words_refusal boxes.now devices.now (map (λ text. text.now) script.now) ≡ None) }
+    ensures ok { IfOk result (λ v. v.items ≡ words_of boxes.now (map (λ text. text.now) script.now)) }
+    ensures err { IfErr result (IsDue (words_refusal boxes.now devices.now (map (λ text. text.now) script.now))) }
 {
     if let Some(refused) = bad_device(boxes, devices) {
         return Err(ConfigErr::Refused(refused));
@@ -120,14 +120,14 @@ pub fn scripted(
     alloc: Global,
     boxes: &[BoxText],
     devices: &[DevicePart],
-    script: &[String],
+    script: &[&str],
 ) -> Result<Programmed, ConfigErr>
     requires few_boxes { length boxes.now ≤ 8 }
     requires few_threads { threads_of boxes.now ≤ 16 }
-    ensures none { OnOk result (running_refusal boxes.now devices.now (map string_bytes script.now) ≡ None) }
+    ensures none { OnOk result (running_refusal boxes.now devices.now (map (λ text. text.now) script.now) ≡ None) }
     ensures threads { IfOk result (λ made. made.threads.items ≡ thread_parts 0 boxes.now) }
-    ensures script { IfOk result (λ made. made.script.items ≡ words_of boxes.now (map string_bytes script.now)) }
-    ensures err { IfErr result (IsDue (running_refusal boxes.now devices.now (map string_bytes script.now))) }
+    ensures script { IfOk result (λ made. made.script.items ≡ words_of boxes.now (map (λ text. text.now) script.now)) }
+    ensures err { IfErr result (IsDue (running_refusal boxes.now devices.now (map (λ text. text.now) script.now))) }
 {
     let threads = thread_parts(alloc, boxes)?;
     let script = script_words_of(alloc, boxes, devices, script)?;

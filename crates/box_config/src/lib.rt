@@ -13,4 +13,4 @@ mod texts;
 pub use boxes::read_boxes;
 pub use devices::read_devices;
 pub use gates::read_gates;
-pub use texts::read_script;
+pub use texts::{read_script, script_texts};

@@ -58,3 +58,24 @@ pub fn read_script(alloc: Global, document: &Table) -> Result<Vec<String>, OutOf
 {
     plain_strings(alloc, array_at(document, Key::Script)).map_err(|_| OutOfMemory)
 }
+
+// The strings of an array, lent by it.
+fn lent_strings(alloc: Global, items: &[Value]) -> Result<Vec<&str>, AllocError>
+    ensures { IfOk result (λ texts. map (λ text. text.now) texts.items ≡ strings_of (items_view items.now)) }
+{
+    let mut texts = Vec::with_capacity(alloc, items.len())?;
+    for item in items {
+        if let Some(text) = item.as_str() {
+            texts.push(text)?;
+        }
+    }
+    Ok(texts)
+}
+
+/// The script words of a document, lent by it, so that none is copied; none where it has no script.
+#[tactic(auto, unfolding(crate::specs::Texts::script_of))]
+pub fn script_texts(alloc: Global, document: &Table) -> Result<Vec<&str>, OutOfMemory>
+    ensures { IfOk result (λ words. map (λ word. word.now) words.items ≡ script_of (table_view document.now)) }
+{
+    lent_strings(alloc, array_at(document, Key::Script)).map_err(|_| OutOfMemory)
+}

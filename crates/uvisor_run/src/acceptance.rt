@@ -8,9 +8,9 @@ ghost use Rattle.acl_resolver.specs.Resolvable.{IsResolvable};
 ghost use Rattle.acl_resolver.specs.Resolve.{parts_of};
 ghost use Rattle.uvisor_run.specs.Accept.{config_of, config_of_document, config_of_parts, document_of, or_not_toml};
 
-use acl_resolver::resolve;
+use acl_resolver::resolve_texts;
 use board_map::{check_shape, read_board};
-use box_config::{read_boxes, read_devices, read_gates, read_script};
+use box_config::{read_boxes, read_devices, read_gates, script_texts};
 use flat_model::{Board, BoxText, Config, ConfigErr, OutOfMemory, Refused};
 use std::alloc::Global;
 use toml::Table;
@@ -71,8 +71,8 @@ fn resolve_parts(
 {
     let gates = or_memory(read_gates(alloc, document))?;
     let devices = or_memory(read_devices(alloc, document))?;
-    let script = or_memory(read_script(alloc, document))?;
-    resolve(alloc, board, boxes, gates, devices, script)
+    let script = or_memory(script_texts(alloc, document))?;
+    resolve_texts(alloc, board, boxes, gates, devices, script.as_slice())
 }
 
 // The configuration of a document.

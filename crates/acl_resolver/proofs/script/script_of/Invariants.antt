@@ -1,5 +1,4 @@
 use Rattle.std.proofs.Common.{◌≡◌, ◌++◌, drop, map}
-use Rattle.std.specs.Prelude.{string_bytes}
 use Rattle.std.specs.List.{filter_map}
 use Rattle.acl_resolver.specs.Refusals.{first_numbered}
 use Rattle.acl_resolver.specs.Naming.{bad_word_at, word_of_text}
@@ -7,6 +6,6 @@ use Rattle.acl_resolver.proofs.script.script_of.Given as goal
 
 abbrev pub invariant-loop-at : goal.invariant-loop-at
 invariant-loop-at l = record {
-  due : first_numbered (bad_word_at l.table) l.at (map string_bytes (drop l.at l.script)) ≡ first_numbered (bad_word_at l.table) 0 (map string_bytes l.script);
-  same : l.words.items ++ filter_map (word_of_text l.table) (map string_bytes (drop l.at l.script)) ≡ filter_map (word_of_text l.table) (map string_bytes l.script);
+  due : first_numbered (bad_word_at l.table) l.at (map (λ text. text.now) (drop l.at l.script)) ≡ first_numbered (bad_word_at l.table) 0 (map (λ text. text.now) l.script);
+  same : l.words.items ++ filter_map (word_of_text l.table) (map (λ text. text.now) (drop l.at l.script)) ≡ filter_map (word_of_text l.table) (map (λ text. text.now) l.script);
 }
