@@ -1,6 +1,7 @@
 ghost use Rattle.std.specs.Prelude.{◌≡◌, ℕ, ◌+◌, ◌^◌, ◌<◌, ◌≤◌, false, true, [], ◌∷◌, ◌++◌, map, length, vec_capacity, Some, None, slice_get};
 ghost use Rattle.std.specs.Option.{ForSome, option_copied};
 ghost use Rattle.flat_model.specs.declared.events.Logged.TheVariants as item;
+ghost use Rattle.flat_model.specs.Decision.{decision};
 ghost use Rattle.flat_model.specs.Stepping.{CanStep};
 ghost use Rattle.flat_model.specs.Step as step_words;
 ghost use Rattle.flat_model.specs.Today.{RunsToday};
@@ -52,7 +53,8 @@ fn record_switch(
     }
 }
 
-// Lets a pair of the box's plan rotate in for an access that the unit denies.
+// What the unit says of an access, once a pair of the box's plan rotated in where it is denied. Nothing is asked again
+// where nothing rotated in.
 fn record_rotation(
     cfg: &Config,
     rotator: &mut Rotator,
@@ -61,7 +63,7 @@ fn record_rotation(
     part: &BoxPart,
     access: Access,
     items: &mut Vec<Logged>,
-)
+) -> Verdict
     requires rotation { rotator.old ≡ rotation_of cfg.now rotator.old.unit }
     requires last { rotator.old.unit.last ≡ Some b }
     requires found { slice_get cfg.now.boxes b.0 ≡ Some part.now }
@@ -71,6 +73,7 @@ fn record_rotation(
         (unit_words.rotating_pair (plan_of cfg.now owners.now b.0 part.now) rotator.old.unit access))
         ≤ vec_capacity items.old }
 
+    ensures verdict { result ≡ decision rotator.new.unit.pairs access.at access.kind }
     ensures rotation { rotator.new ≡ rotation_of cfg.now (unit_words.rotated rotator.old.unit
         (unit_words.rotating_pair (plan_of cfg.now owners.now b.0 part.now) rotator.old.unit access)) }
     ensures items { items.new.items ≡ items.old.items ++ map item.Unit (unit_words.rotate_lines rotator.old.unit
@@ -78,7 +81,7 @@ fn record_rotation(
     ensures capacity { vec_capacity items.old ≤ vec_capacity items.new }
 {
     match rotator.decide(access.at, access.kind) {
-        Verdict::Granted(_) => {}
+        Verdict::Granted(slot) => Verdict::Granted(slot),
         Verdict::Denied => {
             if let Some(rotated) = rotator.recover(access.at, access.kind, owners.as_vec()) {
                 let line = UnitLine::Rotate {
@@ -86,7 +89,9 @@ fn record_rotation(
                     pair: rotated.pair,
                 };
                 push(items, Logged::Unit(line));
+                return rotator.decide(access.at, access.kind);
             }
+            Verdict::Denied
         }
     }
 }
@@ -118,8 +123,7 @@ fn record_access(
     let Some(access) = access else {
         return;
     };
-    record_rotation(cfg, rotator, owners, b, part, access, items);
-    let verdict = rotator.decide(access.at, access.kind);
+    let verdict = record_rotation(cfg, rotator, owners, b, part, access, items);
     let line = UnitLine::Access {
         kind: access.kind,
         size: access.size,

@@ -21,40 +21,6 @@ fn is_ready(mode: Mode) -> bool
     }
 }
 
-// The instruction that a turn of a thread carries out.
-fn next_instruction(
-    part: &BoxPart,
-    program: &ThreadPart,
-    parts: &Parts,
-    thread: &ThreadState,
-    t: ThreadId,
-) -> Option<Instr>
-    ensures { result ≡ want_words.next_instruction part.now program.now (shared_of parts.now) thread.now t.0 }
-{
-    if is_ready(thread.mode) && due_interrupt(&parts.lines, part, program.home, t).is_none() {
-        instruction_at(program, thread.pc)
-    } else {
-        None
-    }
-}
-
-// The same of a thread of a box, where there is such a box.
-fn instruction_in(
-    cfg: &Config,
-    parts: &Parts,
-    t: ThreadId,
-    program: &ThreadPart,
-    thread: &ThreadState,
-) -> Option<Instr>
-    ensures { result ≡ spec.instruction_in (flat_of parts.now) t.0 program.now thread.now
-        (slice_get cfg.now.boxes program.now.home.0) }
-{
-    match cfg.boxes.as_slice().get(program.home.0 as usize) {
-        Some(part) => next_instruction(part, program, parts, thread, t),
-        None => None,
-    }
-}
-
 // The access that an instruction asks for, where its address is aligned.
 fn aligned_access(thread: &ThreadState, instr: Instr) -> Option<Access>
     ensures { result ≡ access_words.aligned_access (access_words.access_of thread.now instr) }
@@ -62,6 +28,37 @@ fn aligned_access(thread: &ThreadState, instr: Instr) -> Option<Access>
     match access_of(thread, instr) {
         Some(access) if is_aligned(access.at as u64, access.size) => Some(access),
         _ => None,
+    }
+}
+
+// The access that the instruction at the thread's place asks for, where its address is aligned.
+fn access_at_place(program: &ThreadPart, thread: &ThreadState) -> Option<Access>
+    ensures { result ≡ spec.touch_by thread.now (slice_get program.now.program thread.now.pc) }
+{
+    match instruction_at(program, thread.pc) {
+        Some(instr) => aligned_access(thread, instr),
+        None => None,
+    }
+}
+
+// The access of a thread of this box. Most instructions ask for none, so the interrupts are looked at last.
+fn touch_in(
+    part: &BoxPart,
+    program: &ThreadPart,
+    parts: &Parts,
+    thread: &ThreadState,
+    t: ThreadId,
+) -> Option<Access>
+    ensures { result ≡ spec.touch_by thread.now
+        (want_words.next_instruction part.now program.now (shared_of parts.now) thread.now t.0) }
+{
+    let Some(access) = access_at_place(program, thread) else {
+        return None;
+    };
+    if is_ready(thread.mode) && due_interrupt(&parts.lines, part, program.home, t).is_none() {
+        Some(access)
+    } else {
+        None
     }
 }
 
@@ -76,8 +73,8 @@ pub(crate) fn touch_at(cfg: &Config, parts: &Parts, t: ThreadId) -> Option<Acces
     let Some(thread) = thread_of(parts, t) else {
         return None;
     };
-    match instruction_in(cfg, parts, t, program, &thread) {
-        Some(instr) => aligned_access(&thread, instr),
+    match cfg.boxes.as_slice().get(program.home.0 as usize) {
+        Some(part) => touch_in(part, program, parts, &thread, t),
         None => None,
     }
 }

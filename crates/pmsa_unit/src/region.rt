@@ -55,7 +55,9 @@ fn len_of(pair: Pair) -> u64
 fn contains(pair: Pair, a: u32) -> bool
     ensures { result ≡ region_contains pair a }
 {
-    pair.rbar <= a && u64::from(a) < u64::from(pair.rbar) + len_of(pair)
+    // Below the base the difference wraps to more than any length.
+    let offset = u64::from(a).wrapping_sub(u64::from(pair.rbar));
+    offset < len_of(pair)
 }
 
 fn has_rest_zero(pair: Pair) -> bool
