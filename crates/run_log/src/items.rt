@@ -81,14 +81,15 @@ fn push_ticket(config: &Config, ticket: Ticket, page: &mut Page)
     page.push_decimal(ticket.seq);
 }
 
-fn kind_text(kind: Kind) -> &'static str
-    ensures text { result.now ≡ kind_text kind }
-    ensures short { length result.now ≤ 5 }
+fn push_kind(kind: Kind, page: &mut Page)
+    requires { length page.old + 7 ≤ 4096 }
+    ensures text { page.new ≡ page.old ++ 32 ∷ (kind_text kind ++ 32 ∷ []) }
+    ensures long { length page.new ≤ length page.old + 7 }
 {
     match kind {
-        Kind::Read => "read",
-        Kind::Write => "write",
-        Kind::Fetch => "fetch",
+        Kind::Read => page.push_bytes(b" read "),
+        Kind::Write => page.push_bytes(b" write "),
+        Kind::Fetch => page.push_bytes(b" fetch "),
     }
 }
 
@@ -136,9 +137,7 @@ fn push_access(kind: Kind, size: u8, at: u32, verdict: Verdict, page: &mut Page)
     ensures text { page.new ≡ page.old ++ spaced (kind_text kind ∷ decimal size ∷ hex_word at ∷ verdict_words verdict) }
     ensures long { length page.new ≤ length page.old + 56 }
 {
-    page.push_byte(b' ');
-    page.push_bytes(kind_text(kind).as_bytes());
-    page.push_byte(b' ');
+    push_kind(kind, page);
     page.push_decimal(u32::from(size));
     page.push_byte(b' ');
     page.push_hex(at);
@@ -200,7 +199,7 @@ fn push_started(started: &Started, page: &mut Page)
     push_hex_words(&started.args, page);
 }
 
-fn push_reply(reply: &Reply, page: &mut Page)
+fn push_any_reply(reply: &Reply, page: &mut Page)
     requires { length page.old + 183 ≤ 4096 }
     ensures text { page.new ≡ page.old ++ spaced (reply_words reply.now) }
     ensures long { length page.new ≤ length page.old + 183 }
@@ -235,6 +234,19 @@ fn push_reply(reply: &Reply, page: &mut Page)
         }
         Reply::Halted => page.push_bytes(b" halted"),
         Reply::Begun(started) => push_started(started, page),
+    }
+}
+
+fn push_reply(reply: &Reply, page: &mut Page)
+    requires { length page.old + 183 ≤ 4096 }
+    ensures text { page.new ≡ page.old ++ spaced (reply_words reply.now) }
+    ensures long { length page.new ≤ length page.old + 183 }
+    ensures typed { IsTypedReply reply.now }
+{
+    // Most replies of a log are this one, and its few bytes need no call.
+    match reply {
+        Reply::Done => page.push_bytes(b" ok"),
+        _ => push_any_reply(reply, page),
     }
 }
 
