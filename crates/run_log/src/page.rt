@@ -83,6 +83,17 @@ impl Page {
         let _ = self.bytes.try_extend_from_slice(bytes);
     }
 
+    /// Prints a word whose length is known when it is compiled, so that its bytes become one or two stores.
+    pub fn push_word<const N: usize>(&mut self, word: &[u8; N])
+        requires { length self.old + length word.now ≤ PAGE }
+        ensures text { self.new ≡ self.old ++ word.now }
+        ensures long { length self.new ≡ length self.old + length word.now }
+    {
+        for byte in word {
+            self.push_byte(*byte);
+        }
+    }
+
     /// Prints a number in decimal.
     #[tactic(auto, using(std::proofs::lemmas::Fmt::decimal_digit, crate::proofs::DecimalLemmas::decimal_short))]
     pub fn push_decimal(&mut self, n: u32)
