@@ -81,14 +81,15 @@ fn push_ticket(config: &Config, ticket: Ticket, page: &mut Page)
     page.push_decimal(ticket.seq);
 }
 
-fn kind_text(kind: Kind) -> &'static str
-    ensures text { result.now ≡ kind_text kind }
-    ensures short { length result.now ≤ 5 }
+fn push_kind(kind: Kind, page: &mut Page)
+    requires { length page.old + 7 ≤ 4096 }
+    ensures text { page.new ≡ page.old ++ 32 ∷ (kind_text kind ++ 32 ∷ []) }
+    ensures long { length page.new ≤ length page.old + 7 }
 {
     match kind {
-        Kind::Read => "read",
-        Kind::Write => "write",
-        Kind::Fetch => "fetch",
+        Kind::Read => page.push_word(b" read "),
+        Kind::Write => page.push_word(b" write "),
+        Kind::Fetch => page.push_word(b" fetch "),
     }
 }
 
@@ -124,10 +125,10 @@ fn push_verdict(verdict: Verdict, page: &mut Page)
 {
     match verdict {
         Verdict::Granted(slot) => {
-            page.push_bytes(b" slot ");
+            page.push_word(b" slot ");
             page.push_decimal(u32::from(slot));
         }
-        Verdict::Denied => page.push_bytes(b" denied"),
+        Verdict::Denied => page.push_word(b" denied"),
     }
 }
 
@@ -136,9 +137,7 @@ fn push_access(kind: Kind, size: u8, at: u32, verdict: Verdict, page: &mut Page)
     ensures text { page.new ≡ page.old ++ spaced (kind_text kind ∷ decimal size ∷ hex_word at ∷ verdict_words verdict) }
     ensures long { length page.new ≤ length page.old + 56 }
 {
-    page.push_byte(b' ');
-    page.push_bytes(kind_text(kind).as_bytes());
-    page.push_byte(b' ');
+    push_kind(kind, page);
     page.push_decimal(u32::from(size));
     page.push_byte(b' ');
     page.push_hex(at);
@@ -185,7 +184,7 @@ fn push_given(frames: &Frames, page: &mut Page)
     ensures long { length page.new ≤ length page.old + 183 }
     ensures typed { IsTypedFrames frames.now }
 {
-    page.push_bytes(b" frames");
+    page.push_word(b" frames");
     push_first_frames(&frames.list, frames.n, page);
 }
 
@@ -195,9 +194,47 @@ fn push_started(started: &Started, page: &mut Page)
     ensures long { length page.new ≤ length page.old + 58 }
     ensures typed { IsTypedStarted started.now }
 {
-    page.push_bytes(b" ok ");
+    page.push_word(b" ok ");
     page.push_hex(started.function);
     push_hex_words(&started.args, page);
+}
+
+fn push_any_reply(reply: &Reply, page: &mut Page)
+    requires { length page.old + 183 ≤ 4096 }
+    ensures text { page.new ≡ page.old ++ spaced (reply_words reply.now) }
+    ensures long { length page.new ≤ length page.old + 183 }
+    ensures typed { IsTypedReply reply.now }
+{
+    match reply {
+        Reply::Ended => page.push_word(b" ended"),
+        Reply::Done => page.push_word(b" ok"),
+        Reply::Value(value) => {
+            page.push_word(b" ok ");
+            page.push_hex(*value);
+        }
+        Reply::Status(status) => {
+            page.push_word(b" status ");
+            page.push_decimal(u32::from(*status));
+        }
+        Reply::Posted(seq) => {
+            page.push_word(b" posted ");
+            page.push_decimal(*seq);
+        }
+        Reply::Waiting => page.push_word(b" waiting"),
+        Reply::Irq(line) => {
+            page.push_word(b" irq ");
+            page.push_decimal(u32::from(line.0));
+        }
+        Reply::Given(frames) => push_given(frames, page),
+        Reply::Fault { why, at } => {
+            page.push_word(b" fault ");
+            page.push_bytes(flaw_text(*why).as_bytes());
+            page.push_byte(b' ');
+            page.push_hex(*at);
+        }
+        Reply::Halted => page.push_word(b" halted"),
+        Reply::Begun(started) => push_started(started, page),
+    }
 }
 
 fn push_reply(reply: &Reply, page: &mut Page)
@@ -206,35 +243,10 @@ fn push_reply(reply: &Reply, page: &mut Page)
     ensures long { length page.new ≤ length page.old + 183 }
     ensures typed { IsTypedReply reply.now }
 {
+    // Most replies of a log are this one, and its few bytes need no call.
     match reply {
-        Reply::Ended => page.push_bytes(b" ended"),
-        Reply::Done => page.push_bytes(b" ok"),
-        Reply::Value(value) => {
-            page.push_bytes(b" ok ");
-            page.push_hex(*value);
-        }
-        Reply::Status(status) => {
-            page.push_bytes(b" status ");
-            page.push_decimal(u32::from(*status));
-        }
-        Reply::Posted(seq) => {
-            page.push_bytes(b" posted ");
-            page.push_decimal(*seq);
-        }
-        Reply::Waiting => page.push_bytes(b" waiting"),
-        Reply::Irq(line) => {
-            page.push_bytes(b" irq ");
-            page.push_decimal(u32::from(line.0));
-        }
-        Reply::Given(frames) => push_given(frames, page),
-        Reply::Fault { why, at } => {
-            page.push_bytes(b" fault ");
-            page.push_bytes(flaw_text(*why).as_bytes());
-            page.push_byte(b' ');
-            page.push_hex(*at);
-        }
-        Reply::Halted => page.push_bytes(b" halted"),
-        Reply::Begun(started) => push_started(started, page),
+        Reply::Done => page.push_word(b" ok"),
+        _ => push_any_reply(reply, page),
     }
 }
 
@@ -247,25 +259,25 @@ fn push_unit(config: &Config, line: &UnitLine, page: &mut Page)
 {
     match line {
         UnitLine::Switch(b) => {
-            page.push_bytes(b"unit switch ");
+            page.push_word(b"unit switch ");
             push_name(config, *b, page);
         }
         UnitLine::Rotate { slot, pair } => {
-            page.push_bytes(b"unit rotate ");
+            page.push_word(b"unit rotate ");
             page.push_decimal(u32::from(*slot));
             page.push_byte(b' ');
             page.push_hex(pair.rbar);
             page.push_byte(b' ');
             page.push_hex(pair.rasr);
         }
-        UnitLine::Flush => page.push_bytes(b"unit flush"),
+        UnitLine::Flush => page.push_word(b"unit flush"),
         UnitLine::Access {
             kind,
             size,
             at,
             verdict,
         } => {
-            page.push_bytes(b"unit access");
+            page.push_word(b"unit access");
             push_access(*kind, *size, *at, *verdict, page);
         }
     }
@@ -281,26 +293,26 @@ fn push_entry(config: &Config, entry: &Entry, page: &mut Page)
 {
     match entry.choice {
         Choice::Turn { t, room: _ } => {
-            page.push_bytes(b"turn ");
+            page.push_word(b"turn ");
             push_thread(config, t, page);
             push_reply(&entry.reply, page);
         }
         Choice::Start { t, ticket } => {
-            page.push_bytes(b"start ");
+            page.push_word(b"start ");
             push_thread(config, t, page);
             page.push_byte(b' ');
             push_ticket(config, ticket, page);
-            push_reply(&entry.reply, page);
+            push_any_reply(&entry.reply, page);
         }
         Choice::Idle { t } => {
-            page.push_bytes(b"idle ");
+            page.push_word(b"idle ");
             push_thread(config, t, page);
-            push_reply(&entry.reply, page);
+            push_any_reply(&entry.reply, page);
         }
         Choice::Ring { line, by } => {
-            page.push_bytes(b"ring ");
+            page.push_word(b"ring ");
             page.push_decimal(u32::from(line.0));
-            page.push_bytes(b" by ");
+            page.push_word(b" by ");
             page.push_decimal(u32::from(by));
         }
     }
@@ -341,7 +353,7 @@ pub fn push_end_words(config: &Config, t: ThreadId, end: &End, page: &mut Page)
     ensures long { length page.new ≤ length page.old + 255 }
     ensures typed { IsTypedEnd end.now }
 {
-    page.push_bytes(b"thread ");
+    page.push_word(b"thread ");
     push_thread(config, t, page);
     page.push_byte(b' ');
     page.push_bytes(mode_text(end.mode).as_bytes());

@@ -83,14 +83,30 @@ impl Page {
         let _ = self.bytes.try_extend_from_slice(bytes);
     }
 
+    /// Prints a word whose length is known when it is compiled, so that its bytes become one or two stores.
+    pub fn push_word<const N: usize>(&mut self, word: &[u8; N])
+        requires { length self.old + length word.now ≤ PAGE }
+        ensures text { self.new ≡ self.old ++ word.now }
+        ensures long { length self.new ≡ length self.old + length word.now }
+    {
+        for byte in word {
+            self.push_byte(*byte);
+        }
+    }
+
     /// Prints a number in decimal.
-    #[tactic(auto, using(crate::proofs::DecimalLemmas::decimal_short))]
+    #[tactic(auto, using(std::proofs::lemmas::Fmt::decimal_digit, crate::proofs::DecimalLemmas::decimal_short))]
     pub fn push_decimal(&mut self, n: u32)
         requires { length self.old + 10 ≤ PAGE }
         ensures text { self.new ≡ self.old ++ decimal n }
         ensures long { length self.new ≤ length self.old + 10 }
     {
-        self.push_digits(n);
+        // Most numbers of a log have one digit.
+        if n < 10 {
+            self.push_byte(b'0' + n as u8);
+        } else {
+            self.push_digits(n);
+        }
     }
 
     #[tactic(auto, using(std::proofs::lemmas::Fmt::decimal_digit, crate::proofs::DecimalLemmas::decimal_ends, crate::proofs::DecimalLemmas::decimal_longer))]

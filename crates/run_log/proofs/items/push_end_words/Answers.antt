@@ -6,5 +6,5 @@ use Rattle.run_log.proofs.items.push_end_words.Goals as goal
 pub returns-clause-text : goal.returns-clause-text
 unfolding end_line
 returns-clause-text c =
-    four_pushed _ _ _ _ _ _ _ _ (codes "thread") _ (mode_text c.args.end.now.mode) _ (map hex_word c.args.end.now.regs) c.push_bytes.ensures.text c.push_thread.ensures.text c.push_byte.ensures.text
-    (rw (c.as_bytes.ensures.value, c.mode_text.ensures.text) at c.push_bytes-2.ensures.text) c.push_byte-2.ensures.text c.push_decimal.ensures.text c.push_hex_words.ensures.text
+    four_pushed _ _ _ _ _ _ _ _ (codes "thread") _ (mode_text c.args.end.now.mode) _ (map hex_word c.args.end.now.regs) c.push_word.ensures.text c.push_thread.ensures.text c.push_byte.ensures.text
+    (rw (c.as_bytes.ensures.value, c.mode_text.ensures.text) at c.push_bytes.ensures.text) c.push_byte-2.ensures.text c.push_decimal.ensures.text c.push_hex_words.ensures.text
