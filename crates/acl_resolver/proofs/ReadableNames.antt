@@ -1,7 +1,7 @@
 -- Boxes whose names are not refused have names, each one of its own.
-use Rattle.std.proofs.Common.{◌≡◌, ℕ, ◌+◌, Bool, true, false, not, ◌&&◌, nat_le, if◌then◌else◌, List, [], ◌∷◌, ◌++◌, map, length, Option, Some, None, option_map, Ok, refl, subst, append_assoc}
-use Rattle.std.proofs.lemmas.Bool.{and_parts, not-false, or_parts}
-use Rattle.std.specs.List.{AllByRecursion, list_all, list_any}
+use Rattle.std.proofs.Common.{◌≡◌, ℕ, ◌+◌, Bool, true, false, not, if◌then◌else◌, List, [], ◌∷◌, ◌++◌, map, Option, Some, None, option_map, Ok, refl, subst, append_assoc}
+use Rattle.std.proofs.lemmas.Bool.{not-false, or_parts}
+use Rattle.std.specs.List.{AllByRecursion, list_any}
 use Rattle.std.specs.Str.{bytes_eq}
 use Rattle.flat_model.specs.First.{first_after, first_index, number, unless_refused}
 use Rattle.flat_model.specs.Names.{AreDistinctNames, is_name}

@@ -1,5 +1,6 @@
 ghost use Rattle.std.specs.Prelude.{◌≡◌, ◌++◌, ◌∷◌, [], None, IfOk, IfErr, OnOk, map};
 ghost use Rattle.std.specs.List.{filter_map};
+ghost use Rattle.std.specs.Str.{bytes_eq};
 ghost use Rattle.flat_model.specs.First.{number};
 ghost use Rattle.acl_resolver.specs.Naming.{bad_word_at, word_of_text};
 ghost use Rattle.acl_resolver.specs.Refusals.{first_numbered};
@@ -10,12 +11,28 @@ use crate::spelling::Spelled;
 use flat_model::{ConfigErr, Refused, ScriptWord};
 use std::alloc::Global;
 
+// Whether two texts have the same bytes. Most words of a script have three: a loop over those takes
+// fewer steps than the comparison for long texts that `==` is.
+fn is_same(first: &[u8], second: &[u8]) -> bool
+    ensures { result ≡ bytes_eq first.now second.now }
+{
+    if first.len() != second.len() {
+        return false;
+    }
+    for (i, byte) in first.iter().enumerate() {
+        if *byte != second[i] {
+            return false;
+        }
+    }
+    true
+}
+
 // What a word of a script stands for.
 fn word_of_text(table: &[Spelled], text: &str) -> Option<ScriptWord>
     ensures { result ≡ word_of_text table.now text.now }
 {
     for spelled in table {
-        if spelled.text.as_str() == text {
+        if is_same(spelled.text.as_str().as_bytes(), text.as_bytes()) {
             return Some(spelled.word);
         }
     }

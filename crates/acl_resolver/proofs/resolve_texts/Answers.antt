@@ -1,4 +1,4 @@
-use Rattle.std.proofs.Common.{◌≡◌, map, Option, None, sym, subst, ap, ◌∙◌, refl}
+use Rattle.std.proofs.Common.{◌≡◌, map, Option, None, sym, subst, ◌∙◌, refl}
 use Rattle.std.proofs.lemmas.Result.{IfOk-at_ok, err_from_is_err_and}
 use Rattle.flat_model.specs.Sound.{IsSound}
 use Rattle.flat_model.specs.declared.refusals.Refused.{Refused}

@@ -180,15 +180,6 @@ pub fn devices_of(alloc: Global, devices: &[&[u8]]) -> Result<Vec<DevicePart>, A
     Ok(parts)
 }
 
-/// The words of a script.
-pub fn words_of(alloc: Global, words: &[&str]) -> Result<Vec<String>, AllocError> {
-    let mut script = Vec::new(alloc);
-    for word in words {
-        script.push(String::from_str(alloc, word)?)?;
-    }
-    Ok(script)
-}
-
 /// Whether the boxes have at most 16 threads.
 pub fn has_few_threads(boxes: &[BoxText]) -> bool
     ensures { IsTrue result → threads_of boxes.now ≤ 16 }

@@ -1,6 +1,6 @@
 use crate::stages::{naming_refusal, scripted};
 use crate::tests::fixtures::{
-    Gates, Sketch, boxes_of, devices_of, gates_of, has_few_threads, small_board, words_of,
+    Gates, Sketch, boxes_of, devices_of, gates_of, has_few_threads, small_board,
 };
 use flat_model::{ConfigErr, Refused, Spot};
 use std::alloc::Global;
@@ -191,15 +191,9 @@ fn check_runs(
 ) -> Result<(), Fail> {
     let boxes = boxes_of(alloc, sketches)?;
     let devices = devices_of(alloc, devices)?;
-    let script = words_of(alloc, words)?;
     assert!(rt; boxes.len() <= 8, "few boxes: {what}");
     assert!(rt; has_few_threads(boxes.as_slice()), "few threads: {what}");
-    let found = match scripted(
-        alloc,
-        boxes.as_slice(),
-        devices.as_slice(),
-        script.as_slice(),
-    ) {
+    let found = match scripted(alloc, boxes.as_slice(), devices.as_slice(), words) {
         Ok(_) => None,
         Err(ConfigErr::Refused(refused)) => Some(refused),
         Err(ConfigErr::Memory) => Some(Refused::TooLong),

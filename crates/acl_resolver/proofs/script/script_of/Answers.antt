@@ -1,4 +1,4 @@
-use Rattle.std.proofs.Common.{◌≡◌, ◌∙◌, ◌+◌, drop, map, subst, sym, Option}
+use Rattle.std.proofs.Common.{◌∙◌, ◌+◌, drop, map, subst, sym, Option}
 use Rattle.std.proofs.lemmas.Result.{err_from_is_err_and}
 use Rattle.std.proofs.lemmas.List.{at_drop_more}
 use Rattle.flat_model.specs.declared.refusals.Refused.{Refused}
