@@ -4,7 +4,6 @@ ghost use Rattle.flat_model.specs.Text.{hex_digit, hex_word};
 ghost use Rattle.io_edge.specs.Counts.{Rose};
 ghost use Rattle.io_edge.specs.Written.{Wrote, WrotePart};
 
-use arrayvec::ArrayVec;
 use io_edge::{Sink, WriteErr, write_all};
 use std::marker::Model;
 
@@ -16,20 +15,25 @@ const LINE: usize = 256;
 
 /// What was printed and is not yet written: at most 4,096 bytes, which contracts see as their list.
 /// A printer makes room for a line, pushes the line, and flushes the page after the last one.
+/// Bytes past the length stay as they are, so that a page is cleared at no cost.
 #[derive(Drop)]
 pub struct Page {
-    bytes: ArrayVec<u8, PAGE>,
+    bytes: [u8; PAGE],
+    len: usize,
 }
 
 impl Model for Page {
-    ghost use Rattle.std.specs.Prelude.{List, ℕ};
+    ghost use Rattle.std.specs.Prelude.{◌≤◌, List, ℕ, take};
     ghost use Rattle.std.specs.Coded.{coded_list, coded_ℕ};
+    ghost use Rattle.run_log.specs.declared.page.TheConstants.{PAGE};
 
     ghost Value = { List ℕ };
 
     ghost coded = { coded_list coded_ℕ };
 
-    ghost view = { λ page. page.bytes.items };
+    ghost view = { λ page. take page.len page.bytes };
+
+    ghost invariant = { λ page. page.len ≤ PAGE };
 }
 
 impl Page {
@@ -38,7 +42,8 @@ impl Page {
         ensures { result ≡ [] }
     {
         Page {
-            bytes: ArrayVec::new(),
+            bytes: [0; PAGE],
+            len: 0,
         }
     }
 
@@ -46,14 +51,14 @@ impl Page {
     pub fn as_slice(&self) -> &[u8]
         ensures { result.now ≡ self.now }
     {
-        self.bytes.as_slice()
+        &self.bytes[..self.len]
     }
 
     /// Drops what was printed.
     pub fn clear(&mut self)
         ensures { self.new ≡ [] }
     {
-        self.bytes.clear();
+        self.len = 0;
     }
 
     /// Prints one byte.
@@ -62,7 +67,10 @@ impl Page {
         ensures text { self.new ≡ self.old ++ byte ∷ [] }
         ensures long { length self.new ≡ length self.old + 1 }
     {
-        self.bytes.push(byte);
+        // Read once, since a compiler cannot tell that the store leaves the length alone.
+        let len = self.len;
+        self.bytes[len] = byte;
+        self.len = len + 1;
     }
 
     /// Ends a line.
@@ -80,7 +88,10 @@ impl Page {
         ensures text { self.new ≡ self.old ++ bytes.now }
         ensures long { length self.new ≡ length self.old + length bytes.now }
     {
-        let _ = self.bytes.try_extend_from_slice(bytes);
+        let len = self.len;
+        let end = len + bytes.len();
+        self.bytes[len..end].copy_from_slice(bytes);
+        self.len = end;
     }
 
     /// Prints a word whose length is known when it is compiled, so that its bytes become one or two stores.
@@ -137,7 +148,7 @@ impl Page {
         let f = e / 16;
         let g = f / 16;
         let h = g / 16;
-        self.push_bytes(&[
+        self.push_word(&[
             b'0',
             b'x',
             hex_digit(h % 16),
@@ -160,7 +171,7 @@ impl Page {
         ensures fault_only { IsErr result → Rose (K.faults sink.old) (K.faults sink.new) }
         ensures later { K.faults sink.old ≤ K.faults sink.new }
     {
-        if self.bytes.len() > PAGE - LINE {
+        if self.len > PAGE - LINE {
             self.flush(sink)
         } else {
             Ok(())
@@ -176,8 +187,8 @@ impl Page {
         ensures fault_only { IsErr result → Rose (K.faults sink.old) (K.faults sink.new) }
         ensures later { K.faults sink.old ≤ K.faults sink.new }
     {
-        write_all(sink, self.bytes.as_slice())?;
-        self.bytes.clear();
+        write_all(sink, self.as_slice())?;
+        self.len = 0;
         Ok(())
     }
 }
