@@ -1,4 +1,4 @@
-ghost use Rattle.std.specs.Prelude.{◌≡◌, ◌++◌, ◌∷◌, [], None, IfOk, IfErr, OnOk, map};
+ghost use Rattle.std.specs.Prelude.{◌≡◌, ◌++◌, ◌∷◌, [], None, IfOk, IfErr, IfSome, OnOk, map};
 ghost use Rattle.std.specs.List.{filter_map};
 ghost use Rattle.std.specs.Str.{bytes_eq};
 ghost use Rattle.flat_model.specs.First.{number};
@@ -8,6 +8,7 @@ ghost use Rattle.acl_resolver.specs.Resolve.{IsDue};
 
 use crate::placing::numbered;
 use crate::spelling::Spelled;
+use crate::stages::or_memory;
 use flat_model::{ConfigErr, Refused, ScriptWord};
 use std::alloc::Global;
 
@@ -50,6 +51,32 @@ fn word_at(table: &[Spelled], at: usize, text: &str) -> Result<ScriptWord, Confi
     }
 }
 
+// A text of the script, and the word that it stands for.
+#[derive(Clone, Copy)]
+struct Known<'a> {
+    text: &'a str,
+    word: ScriptWord,
+}
+
+// What the script word at this place stands for. Most repeat the last, which is compared first.
+fn next_word(
+    table: &[Spelled],
+    last: Option<Known>,
+    at: usize,
+    text: &str,
+) -> Result<ScriptWord, ConfigErr>
+    requires { IfSome last (λ known. word_of_text table.now known.text.now ≡ Some known.word) }
+    ensures ok { IfOk result (λ word. word_of_text table.now text.now ≡ Some word) }
+    ensures err { IfErr result (IsDue (bad_word_at table.now (number at) text.now)) }
+{
+    if let Some(known) = last {
+        if is_same(known.text.as_bytes(), text.as_bytes()) {
+            return Ok(known.word);
+        }
+    }
+    word_at(table, at, text)
+}
+
 // Puts a word behind others.
 fn push_word(words: &mut Vec<ScriptWord>, word: ScriptWord) -> Result<(), ConfigErr>
     ensures ok { OnOk result (words.new.items ≡ words.old.items ++ word ∷ []) }
@@ -74,10 +101,12 @@ pub fn script_of(
     ensures err { let texts = map (λ text. text.now) script.now in
         IfErr result (IsDue (first_numbered (bad_word_at table.now) 0 texts)) }
 {
-    let mut words = Vec::new(alloc);
+    let mut words = or_memory(Vec::with_capacity(alloc, script.len()))?;
+    let mut last = None;
     for (at, text) in script.iter().enumerate() {
-        let word = word_at(table, at, *text)?;
+        let word = next_word(table, last, at, *text)?;
         push_word(&mut words, word)?;
+        last = Some(Known { text: *text, word });
     }
     Ok(words)
 }
