@@ -69,28 +69,31 @@ pub lines-none : (cfg : Config) (f : Flat) (u : UnitState) (t : ThreadId) →
 unfolding unit_lines
 lines-none cfg f u t none = ap (λ b. lines_of_box cfg f u (choice.Turn t true) b (part_at cfg b)) none
 
--- the unit after a turn of no box
-pub after-none : (cfg : Config) (f : Flat) (u : UnitState) (t : ThreadId) →
-    acting_box (slice_get cfg.threads t.0) (slice_get f.threads t.0) ≡ None → unit_after cfg f u (choice.Turn t true) ≡ u
-unfolding unit_after
-after-none cfg f u t none = ap (λ b. unit_after_box cfg f u (choice.Turn t true) b (part_at cfg b)) none
+nowhere-lines : (cfg : Config) (f : Flat) (u : UnitState) (c : Choice) (b : Option BoxId) (part : Option BoxPart) →
+    part ≡ None → lines_of_box cfg f u c b part ≡ []
+nowhere-lines cfg f u c None part none = refl
+nowhere-lines cfg f u c (Some b) part none = ap (lines_of_box cfg f u c (Some b)) none
 
--- the unit's lines of a turn of a box that is not there
-pub lines-nowhere : (cfg : Config) (f : Flat) (u : UnitState) (t : ThreadId) (b : BoxId) →
-    acting_box (slice_get cfg.threads t.0) (slice_get f.threads t.0) ≡ Some b → slice_get cfg.boxes b.0 ≡ None →
-    unit_lines cfg f u (choice.Turn t true) ≡ []
+nowhere-after : (cfg : Config) (f : Flat) (u : UnitState) (c : Choice) (b : Option BoxId) (part : Option BoxPart) →
+    part ≡ None → unit_after_box cfg f u c b part ≡ u
+nowhere-after cfg f u c None part none = refl
+nowhere-after cfg f u c (Some b) part none = ap (unit_after_box cfg f u c (Some b)) none
+
+-- the unit's lines of a turn that is no event of a box
+pub lines-idle : (cfg : Config) (f : Flat) (u : UnitState) (t : ThreadId) →
+    part_at cfg (acting_box (slice_get cfg.threads t.0) (slice_get f.threads t.0)) ≡ None → unit_lines cfg f u (choice.Turn t true) ≡ []
 unfolding unit_lines
-lines-nowhere cfg f u t b acting none =
-    ap (λ b. lines_of_box cfg f u (choice.Turn t true) b (part_at cfg b)) acting
-    ∙ ap (λ part. lines_of_box cfg f u (choice.Turn t true) (Some b) part) none
+lines-idle cfg f u t idle =
+    nowhere-lines cfg f u (choice.Turn t true) (acting_box (slice_get cfg.threads t.0) (slice_get f.threads t.0))
+    (part_at cfg (acting_box (slice_get cfg.threads t.0) (slice_get f.threads t.0))) idle
 
-pub after-nowhere : (cfg : Config) (f : Flat) (u : UnitState) (t : ThreadId) (b : BoxId) →
-    acting_box (slice_get cfg.threads t.0) (slice_get f.threads t.0) ≡ Some b → slice_get cfg.boxes b.0 ≡ None →
-    unit_after cfg f u (choice.Turn t true) ≡ u
+-- the unit after it
+pub after-idle : (cfg : Config) (f : Flat) (u : UnitState) (t : ThreadId) →
+    part_at cfg (acting_box (slice_get cfg.threads t.0) (slice_get f.threads t.0)) ≡ None → unit_after cfg f u (choice.Turn t true) ≡ u
 unfolding unit_after
-after-nowhere cfg f u t b acting none =
-    ap (λ b. unit_after_box cfg f u (choice.Turn t true) b (part_at cfg b)) acting
-    ∙ ap (λ part. unit_after_box cfg f u (choice.Turn t true) (Some b) part) none
+after-idle cfg f u t idle =
+    nowhere-after cfg f u (choice.Turn t true) (acting_box (slice_get cfg.threads t.0) (slice_get f.threads t.0))
+    (part_at cfg (acting_box (slice_get cfg.threads t.0) (slice_get f.threads t.0))) idle
 
 module _ (cfg : Config) (f : Flat) (u : UnitState) (t : ThreadId) (b : BoxId) (part : BoxPart)
     (today : RunsToday cfg)

@@ -11,6 +11,8 @@ use Rattle.flat_model.specs.declared.events.Logged.{Logged}
 use Rattle.flat_model.specs.declared.parts.Config.{Config}
 use Rattle.flat_model.specs.declared.parts.ThreadPart.{ThreadPart}
 use Rattle.flat_model.specs.declared.states.Flat.{Flat}
+use Rattle.flat_model.specs.declared.states.Shared.{Shared}
+use Rattle.flat_model.specs.declared.states.ThreadState.{ThreadState}
 use Rattle.flat_model.specs.Legal.{IsFlatRun, IsLegal, IsUnitRun, is_agreed}
 use Rattle.flat_model.specs.Log.{Event, choices_of, ends_with_entry, events_of, replies_of}
 use Rattle.flat_model.specs.OneLog.{entries_of_run, log_of_choices, woven_items}
@@ -45,6 +47,13 @@ steps_left-opening (thread ∷ threads) =
 threads-opening : (cfg : Config) → (opening_state cfg).threads ≡ replicate (length cfg.threads) opening_thread
 unfolding opening_state
 threads-opening cfg = refl
+
+-- the state at the start, from what the threads share and the threads
+pub opening-is : (cfg : Config) (m : Shared) (threads : List ThreadState) →
+    m ≡ (opening_state cfg).shared → threads ≡ (opening_state cfg).threads → record { shared = m; threads = threads } ≡ opening_state cfg
+opening-is cfg m threads shared all =
+    ap (λ (m : Shared). record { shared = m; threads = threads }) shared
+    ∙ ap (λ ths. record { shared = (opening_state cfg).shared; threads = ths }) all
 
 budgets-opening : (cfg : Config) → IsSound cfg → KeepsBudgets cfg (opening_state cfg)
 budgets-opening cfg sound t thread th there here =

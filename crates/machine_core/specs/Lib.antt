@@ -1,4 +1,5 @@
 pub mod Fixture
 pub mod Kept
+pub mod Next
 pub mod Parts
 pub mod View

@@ -1,7 +1,8 @@
--- Inner: no public contract cites this. What the machine's parts are of the flat machine.
-use Rattle.std.specs.Prelude.{◌≡◌}
+-- Inner: no public contract cites this. What the machine's parts and threads are of the flat machine.
+use Rattle.std.specs.Prelude.{List}
 use Rattle.flat_model.specs.declared.states.Flat.{Flat}
 use Rattle.flat_model.specs.declared.states.Shared.{Shared}
+use Rattle.flat_model.specs.declared.states.ThreadState.{ThreadState}
 use Rattle.machine_core.specs.declared.parts.Parts.{Parts}
 
 -- what the threads share
@@ -15,9 +16,5 @@ shared_of p = record {
 }
 
 -- the flat machine's state
-abbrev pub flat_of : Parts → Flat
-flat_of p = record { shared = shared_of p; threads = p.threads }
-
--- what a row leaves as it was: the board, and the threads, whose own state is put back after it
-abbrev pub KeepsOthers : Parts → Parts → Type 0
-KeepsOthers old new = (new.banks.board ≡ old.banks.board) × (new.threads ≡ old.threads)
+abbrev pub flat_of : Parts → List ThreadState → Flat
+flat_of p threads = record { shared = shared_of p; threads = threads }

@@ -1,6 +1,6 @@
 ghost use Rattle.std.specs.Prelude.{◌≡◌, ℕ, ◌<◌, ◌≤◌};
 ghost use Rattle.flat_model.specs.AccessRows as spec;
-ghost use Rattle.machine_core.specs.Parts.{KeepsOthers, shared_of};
+ghost use Rattle.machine_core.specs.Parts.{shared_of};
 
 use crate::parts::Parts;
 use flat_model::{
@@ -25,7 +25,7 @@ fn store_row(parts: &mut Parts, thread: &mut ThreadState, access: Access) -> Rep
     requires { access.size ≤ 4 }
     ensures exact { spec.store_row parts.old.banks.board (shared_of parts.old) thread.old access
         ≡ record { shared = shared_of parts.new; thread = thread.new; reply = result } }
-    ensures others { KeepsOthers parts.old parts.new }
+    ensures board { parts.new.banks.board ≡ parts.old.banks.board }
 {
     let value = register(thread, access.register);
     parts.banks.store(access.at, access.size as u32, value);
@@ -48,7 +48,7 @@ fn performed_row(parts: &mut Parts, thread: &mut ThreadState, access: Access) ->
     requires { access.size ≤ 4 }
     ensures exact { spec.performed_row parts.old.banks.board (shared_of parts.old) thread.old access access.kind
         ≡ record { shared = shared_of parts.new; thread = thread.new; reply = result } }
-    ensures others { KeepsOthers parts.old parts.new }
+    ensures board { parts.new.banks.board ≡ parts.old.banks.board }
 {
     match access.kind {
         Kind::Read => load_row(parts, thread, access),
@@ -71,7 +71,7 @@ pub(crate) fn access_row(
 
     ensures exact { spec.access_row cfg.now home.0 (shared_of parts.old) thread.old access
         ≡ record { shared = shared_of parts.new; thread = thread.new; reply = result } }
-    ensures others { KeepsOthers parts.old parts.new }
+    ensures board { parts.new.banks.board ≡ parts.old.banks.board }
 {
     let at = access.at as u64;
     if !is_aligned(at, access.size) {

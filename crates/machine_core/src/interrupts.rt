@@ -1,6 +1,6 @@
 ghost use Rattle.std.specs.Prelude.{◌≡◌};
 ghost use Rattle.flat_model.specs.Turn as spec;
-ghost use Rattle.machine_core.specs.Parts.{KeepsOthers, shared_of};
+ghost use Rattle.machine_core.specs.Parts.{shared_of};
 
 use crate::parts::Parts;
 use flat_model::{BoxId, Context, IrqPart, Reply, ThreadState, set_register};
@@ -14,7 +14,7 @@ pub(crate) fn delivery_row(
 ) -> Reply
     ensures exact { spec.delivery_row home.0 (shared_of parts.old) thread.old irq
         ≡ record { shared = shared_of parts.new; thread = thread.new; reply = result } }
-    ensures others { KeepsOthers parts.old parts.new }
+    ensures board { parts.new.banks.board ≡ parts.old.banks.board }
 {
     let context = Context {
         pc: thread.pc,

@@ -4,11 +4,11 @@
 mod access;
 mod interrupts;
 mod machine;
+mod next;
 mod parts;
 mod record;
 #[cfg(test)]
 mod tests;
-mod touch;
 mod turn;
 mod waiting;
 

@@ -11,7 +11,7 @@ ghost use Rattle.flat_model.specs.Today.{RunsToday};
 ghost use Rattle.machine_core.specs.Kept.{events_beside};
 ghost use Rattle.machine_core.specs.View.{booted, ended_in, stepped, world_of};
 
-use crate::parts::{Parts, opening_parts, thread_of};
+use crate::parts::{Parts, opening_parts, opening_threads};
 use crate::record::record_turn;
 use flat_model::{
     Config, Drive, End, Items, Log, Logged, OutOfMemory, ThreadId, ThreadPart, ThreadState,
@@ -29,6 +29,7 @@ pub struct Machine {
     drive: Drive,
     extra: u32,
     parts: Parts,
+    threads: Vec<ThreadState>,
     rotator: Rotator,
     items: Vec<Logged>,
     ends: Vec<End>,
@@ -45,7 +46,7 @@ impl Model for Machine {
 
     ghost view = { λ m. record { config = m.config; drive = m.drive; extra = m.extra; items = m.items.items } };
 
-    ghost invariant = { λ m. IsKept m.config m.drive m.extra m.items.items (record { flat = flat_of m.parts; unit = m.rotator.unit }) (vec_capacity m.items)
+    ghost invariant = { λ m. IsKept m.config m.drive m.extra m.items.items (record { flat = flat_of m.parts m.threads.items; unit = m.rotator.unit }) (vec_capacity m.items)
         × (m.rotator ≡ rotation_of m.config m.rotator.unit)
         × HasEnds m.config m.ends.items (vec_capacity m.ends)
         × (m.parts.banks.board ≡ m.config.board) };
@@ -75,11 +76,11 @@ fn beside(cfg: &Config, drive: Drive, extra: u32) -> usize
 }
 
 // Whether the thread with this number can run no more.
-fn has_ended_at(parts: &Parts, t: ThreadId) -> bool
-    ensures { result ≡ option_map_or thread_words.has_ended (slice_get parts.now.threads t.0) true }
+fn has_ended_at(threads: &[ThreadState], t: ThreadId) -> bool
+    ensures { result ≡ option_map_or thread_words.has_ended (slice_get threads.now t.0) true }
 {
-    match thread_of(parts, t) {
-        Some(thread) => has_ended(&thread),
+    match threads.get(t.0 as usize) {
+        Some(thread) => has_ended(thread),
         None => true,
     }
 }
@@ -132,6 +133,7 @@ impl Machine {
         let steps = total_steps(config.threads.as_slice());
         let room = 4 * steps + beside(&config, drive, extra);
         let parts = opening_parts(alloc, &config)?;
+        let threads = opening_threads(alloc, &config)?;
         let rotator = Rotator::new(alloc, &config)?;
         let items = Vec::with_capacity(alloc, room)?;
         let ends = Vec::with_capacity(alloc, config.threads.len())?;
@@ -140,6 +142,7 @@ impl Machine {
             drive,
             extra,
             parts,
+            threads,
             rotator,
             items,
             ends,
@@ -164,7 +167,7 @@ impl Machine {
     pub fn ended(&self, t: ThreadId) -> bool
         ensures { result ≡ ended_in (world_of self.now) t.0 }
     {
-        has_ended_at(&self.parts, t)
+        has_ended_at(self.threads.as_slice(), t)
     }
 
     /// The event that the thread's word of the script stands for.
@@ -174,10 +177,11 @@ impl Machine {
         requires extra { ended_in (world_of self.old) t.0 ≡ true → 1 ≤ self.old.extra }
         ensures { self.new ≡ stepped self.old t }
     {
-        let extra = extra_after(self.extra, has_ended_at(&self.parts, t));
+        let extra = extra_after(self.extra, has_ended_at(self.threads.as_slice(), t));
         record_turn(
             &self.config,
             &mut self.parts,
+            self.threads.as_mut_slice(),
             &mut self.rotator,
             t,
             &mut self.items,
@@ -196,12 +200,13 @@ impl Machine {
             config,
             drive: _,
             extra: _,
-            parts,
+            parts: _,
+            threads,
             rotator: _,
             items,
             mut ends,
         } = self;
-        write_ends(parts.threads.as_slice(), &mut ends);
+        write_ends(threads.as_slice(), &mut ends);
         let log = Log {
             items: Items::from_vec(items),
             ends: Items::from_vec(ends),

@@ -1,25 +1,36 @@
-ghost use Rattle.std.specs.Prelude.{◌≡◌, ℕ, ◌+◌, ◌^◌, ◌<◌, ◌≤◌, false, true, [], ◌∷◌, ◌++◌, map, length, vec_capacity, Some, None, slice_get};
+ghost use Rattle.std.specs.Prelude.{◌≡◌, ℕ, ◌+◌, ◌^◌, ◌<◌, ◌≤◌, false, true, [], ◌∷◌, ◌++◌, map, length, vec_capacity, IfNone, IfSome, Some, None, slice_get};
 ghost use Rattle.std.specs.Option.{ForSome, option_copied};
 ghost use Rattle.flat_model.specs.declared.events.Logged.TheVariants as item;
 ghost use Rattle.flat_model.specs.Decision.{decision};
 ghost use Rattle.flat_model.specs.Stepping.{CanStep};
 ghost use Rattle.flat_model.specs.Step as step_words;
-ghost use Rattle.flat_model.specs.Today.{RunsToday};
+ghost use Rattle.flat_model.specs.Thread.{has_ended};
+ghost use Rattle.flat_model.specs.Today.{RunsToday, runs_today};
 ghost use Rattle.flat_model.specs.Trace.{event_items, world_after};
+ghost use Rattle.flat_model.specs.Turn.{turn_row};
 ghost use Rattle.flat_model.specs.UnitRun as unit_words;
 ghost use Rattle.flat_model.specs.Plan.{plan_of};
 ghost use Rattle.machine_core.specs.Kept.{HasOwners};
-ghost use Rattle.machine_core.specs.Parts.{flat_of};
+ghost use Rattle.machine_core.specs.Next as next_words;
+ghost use Rattle.machine_core.specs.Parts.{flat_of, shared_of};
 ghost use Rattle.region_rotation.specs.Rotation.{rotation_of};
 
-use crate::parts::{Parts, thread_of};
-use crate::touch::touch_at;
-use crate::turn::turn_at;
+use crate::next::{next_of, touch_in};
+use crate::parts::Parts;
+use crate::turn::live_row;
 use flat_model::{
-    Access, BoxId, BoxPart, Choice, Config, Entry, Items, Logged, ThreadId, UnitLine, Verdict,
-    has_ended, program_of,
+    Access, BoxId, BoxPart, Choice, Config, Entry, Items, Logged, Reply, ThreadId, ThreadPart,
+    ThreadState, UnitLine, Verdict, Who, has_ended, program_of,
 };
 use region_rotation::Rotator;
+
+/// Who acts at a turn, with its box and its program.
+#[derive(Clone, Copy)]
+struct Actor<'a> {
+    who: Who,
+    part: &'a BoxPart,
+    program: &'a ThreadPart,
+}
 
 // Notes an item where there is room for it.
 fn push(items: &mut Vec<Logged>, item: Logged)
@@ -133,23 +144,6 @@ fn record_access(
     push(items, Logged::Unit(line));
 }
 
-// The box whose event a turn of a thread is for the unit: none where the thread has ended.
-fn acting_box(cfg: &Config, parts: &Parts, t: ThreadId) -> Option<BoxId>
-    ensures { result ≡ unit_words.acting_box (slice_get cfg.now.threads t.0) (slice_get parts.now.threads t.0) }
-{
-    let Some(program) = program_of(cfg, t) else {
-        return None;
-    };
-    let Some(thread) = thread_of(parts, t) else {
-        return None;
-    };
-    if has_ended(&thread) {
-        None
-    } else {
-        Some(program.home)
-    }
-}
-
 // The part of the box.
 fn part_of(cfg: &Config, b: BoxId) -> Option<&BoxPart>
     ensures { option_copied result ≡ slice_get cfg.now.boxes b.0 }
@@ -186,41 +180,131 @@ fn record_box(
     record_access(cfg, rotator, owners, b, part, access, items);
 }
 
-// The unit's part of a turn of a thread.
-fn record_lines(
+// The thread's turn of a box, and the unit's lines before it, where the thread has not ended.
+fn record_live(
     cfg: &Config,
-    parts: &Parts,
+    actor: Actor<'_>,
+    parts: &mut Parts,
+    thread: &mut ThreadState,
+    rotator: &mut Rotator,
+    items: &mut Vec<Logged>,
+) -> Reply
+    requires live { has_ended thread.old ≡ false }
+    requires steps { CanStep thread.old }
+    requires home { actor.who.home ≡ actor.program.now.home }
+    requires today { runs_today (slice_get actor.program.now.program thread.old.pc) ≡ true }
+    requires board { parts.old.banks.board ≡ cfg.now.board }
+    requires rotation { rotator.old ≡ rotation_of cfg.now rotator.old.unit }
+    requires found { slice_get cfg.now.boxes actor.who.home.0 ≡ Some actor.part.now }
+    requires owners { HasOwners cfg.now.board.heap parts.old.owners }
+    requires room { length items.old.items
+        + length (unit_words.lines_of_event cfg.now actor.who.home actor.part.now
+        (plan_of cfg.now parts.old.owners actor.who.home.0 actor.part.now) rotator.old.unit
+        (next_words.touch_in (next_words.next_of actor.part.now actor.program.now (shared_of parts.old) thread.old actor.who.thread.0)) false)
+        ≤ vec_capacity items.old }
+
+    ensures exact { turn_row cfg.now actor.entry.who actor.entry.part.now actor.entry.program.now (shared_of parts.old) thread.old
+        ≡ record { shared = shared_of parts.new; thread = thread.new; reply = result } }
+    ensures board { parts.new.banks.board ≡ parts.old.banks.board }
+    ensures rotation { rotator.new ≡ rotation_of cfg.now (unit_words.unit_after_event cfg.now actor.entry.who.home actor.entry.part.now
+        (plan_of cfg.now parts.old.owners actor.entry.who.home.0 actor.entry.part.now) rotator.old.unit
+        (next_words.touch_in (next_words.next_of actor.entry.part.now actor.entry.program.now (shared_of parts.old) thread.old actor.entry.who.thread.0)) false) }
+    ensures items { items.new.items ≡ items.old.items
+        ++ map item.Unit (unit_words.lines_of_event cfg.now actor.entry.who.home actor.entry.part.now
+        (plan_of cfg.now parts.old.owners actor.entry.who.home.0 actor.entry.part.now) rotator.old.unit
+        (next_words.touch_in (next_words.next_of actor.entry.part.now actor.entry.program.now (shared_of parts.old) thread.old actor.entry.who.thread.0)) false) }
+    ensures capacity { vec_capacity items.old ≤ vec_capacity items.new }
+{
+    let next = next_of(actor.part, actor.program, parts, thread, actor.who.thread);
+    let access = touch_in(next);
+    record_box(
+        cfg,
+        rotator,
+        &parts.owners,
+        actor.who.home,
+        actor.part,
+        access,
+        items,
+    );
+    live_row(
+        cfg,
+        actor.who,
+        actor.part,
+        actor.program,
+        parts,
+        thread,
+        next,
+    )
+}
+
+// Who acts at a turn of a thread: none where there is no such thread, or it has ended.
+fn actor_of<'a>(cfg: &'a Config, threads: &[ThreadState], t: ThreadId) -> Option<Actor<'a>>
+    ensures none { IfNone result (unit_words.part_at cfg.now
+        (unit_words.acting_box (slice_get cfg.now.threads t.0) (slice_get threads.now t.0)) ≡ None) }
+    ensures some { IfSome result (λ actor.
+        (slice_get cfg.now.threads t.0 ≡ Some actor.program.now)
+        × (slice_get cfg.now.boxes actor.program.now.home.0 ≡ Some actor.part.now)
+        × (actor.who ≡ record { home = actor.program.now.home; thread = t; room = true })
+        × (t.0 < length threads.now)
+        × ForSome (slice_get threads.now t.0) (λ thread. has_ended thread ≡ false)) }
+{
+    let program = program_of(cfg, t)?;
+    let thread = threads.get(t.0 as usize)?;
+    if has_ended(thread) {
+        return None;
+    }
+    let part = part_of(cfg, program.home)?;
+    let who = Who {
+        home: program.home,
+        thread: t,
+        room: true,
+    };
+    Some(Actor { who, part, program })
+}
+
+// A turn of a thread, and the unit's lines before it.
+fn record_thread(
+    cfg: &Config,
+    parts: &mut Parts,
+    threads: &mut [ThreadState],
     rotator: &mut Rotator,
     t: ThreadId,
     items: &mut Vec<Logged>,
-)
+) -> Reply
     requires today { RunsToday cfg.now }
     requires rotation { rotator.old ≡ rotation_of cfg.now rotator.old.unit }
-    requires owners { HasOwners cfg.now.board.heap parts.now.owners }
+    requires board { parts.old.banks.board ≡ cfg.now.board }
+    requires owners { HasOwners cfg.now.board.heap parts.old.owners }
+    requires steps { ForSome (slice_get threads.old t.0) CanStep }
     requires room { length items.old.items
-        + length (unit_words.unit_lines cfg.now (flat_of parts.now) rotator.old.unit (Choice.Turn t true))
+        + length (unit_words.unit_lines cfg.now (flat_of parts.old threads.old) rotator.old.unit (Choice.Turn t true))
         ≤ vec_capacity items.old }
 
+    ensures exact { step_words.turn_at cfg.now (flat_of parts.old threads.old) t true
+        (slice_get cfg.now.threads t.0) (slice_get threads.old t.0)
+        ≡ (flat_of parts.new threads.new, result) }
+    ensures count { length threads.new ≡ length threads.old }
+    ensures board { parts.new.banks.board ≡ parts.old.banks.board }
     ensures rotation { rotator.new ≡ rotation_of cfg.now
-        (unit_words.unit_after cfg.now (flat_of parts.now) rotator.old.unit (Choice.Turn t true)) }
+        (unit_words.unit_after cfg.now (flat_of parts.old threads.old) rotator.old.unit (Choice.Turn t true)) }
     ensures items { items.new.items ≡ items.old.items
-        ++ map item.Unit (unit_words.unit_lines cfg.now (flat_of parts.now) rotator.old.unit (Choice.Turn t true)) }
+        ++ map item.Unit (unit_words.unit_lines cfg.now (flat_of parts.old threads.old) rotator.old.unit (Choice.Turn t true)) }
     ensures capacity { vec_capacity items.old ≤ vec_capacity items.new }
 {
-    let Some(b) = acting_box(cfg, parts, t) else {
-        return;
-    };
-    let Some(part) = part_of(cfg, b) else {
-        return;
-    };
-    let access = touch_at(cfg, parts, t);
-    record_box(cfg, rotator, &parts.owners, b, part, access, items);
+    match actor_of(cfg, threads, t) {
+        Some(actor) => {
+            let thread = &mut threads[t.0 as usize];
+            record_live(cfg, actor, parts, thread, rotator, items)
+        }
+        None => Reply::Ended,
+    }
 }
 
 /// A turn of a thread: its unit's lines, and then its entry.
 pub(crate) fn record_turn(
     cfg: &Config,
     parts: &mut Parts,
+    threads: &mut [ThreadState],
     rotator: &mut Rotator,
     t: ThreadId,
     items: &mut Vec<Logged>,
@@ -229,21 +313,21 @@ pub(crate) fn record_turn(
     requires rotation { rotator.old ≡ rotation_of cfg.now rotator.old.unit }
     requires board { parts.old.banks.board ≡ cfg.now.board }
     requires owners { HasOwners cfg.now.board.heap parts.old.owners }
-    requires steps { ForSome (slice_get parts.old.threads t.0) CanStep }
+    requires steps { ForSome (slice_get threads.old t.0) CanStep }
     requires room { length items.old.items
-        + length (event_items cfg.now (record { flat = flat_of parts.old; unit = rotator.old.unit }) (Choice.Turn t true))
+        + length (event_items cfg.now (record { flat = flat_of parts.old threads.old; unit = rotator.old.unit }) (Choice.Turn t true))
         ≤ vec_capacity items.old }
 
-    ensures world { world_after cfg.now (record { flat = flat_of parts.old; unit = rotator.old.unit }) (Choice.Turn t true)
-        ≡ record { flat = flat_of parts.new; unit = rotator.new.unit } }
+    ensures world { world_after cfg.now (record { flat = flat_of parts.old threads.old; unit = rotator.old.unit }) (Choice.Turn t true)
+        ≡ record { flat = flat_of parts.new threads.new; unit = rotator.new.unit } }
+    ensures count { length threads.new ≡ length threads.old }
     ensures board { parts.new.banks.board ≡ parts.old.banks.board }
     ensures rotation { rotator.new ≡ rotation_of cfg.now rotator.new.unit }
     ensures items { items.new.items ≡ items.old.items
-        ++ event_items cfg.now (record { flat = flat_of parts.old; unit = rotator.old.unit }) (Choice.Turn t true) }
+        ++ event_items cfg.now (record { flat = flat_of parts.old threads.old; unit = rotator.old.unit }) (Choice.Turn t true) }
     ensures capacity { vec_capacity items.old ≤ vec_capacity items.new }
 {
-    record_lines(cfg, parts, rotator, t, items);
-    let reply = turn_at(cfg, parts, t, true);
+    let reply = record_thread(cfg, parts, threads, rotator, t, items);
     let choice = Choice::Turn { t, room: true };
     push(items, Logged::Core(Entry { choice, reply }));
 }

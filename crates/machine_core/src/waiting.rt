@@ -1,6 +1,6 @@
 ghost use Rattle.std.specs.Prelude.{◌≡◌, ℕ, ◌-◌};
 ghost use Rattle.flat_model.specs.Turn as spec;
-ghost use Rattle.machine_core.specs.Parts.{KeepsOthers, shared_of};
+ghost use Rattle.machine_core.specs.Parts.{shared_of};
 
 use crate::parts::Parts;
 use flat_model::{
@@ -17,7 +17,7 @@ fn look_row(
 ) -> Reply
     ensures exact { spec.look_row who (shared_of parts.old) thread.old awaited value
         ≡ record { shared = shared_of parts.new; thread = thread.new; reply = result } }
-    ensures others { KeepsOthers parts.old parts.new }
+    ensures board { parts.new.banks.board ≡ parts.old.banks.board }
 {
     if let Some(value) = value {
         let ticket = Ticket {
@@ -45,7 +45,7 @@ fn look_row(
 pub(crate) fn waiting_row(who: Who, parts: &mut Parts, thread: &mut ThreadState) -> Reply
     ensures exact { spec.waiting_row who (shared_of parts.old) thread.old thread.old.awaited
         ≡ record { shared = shared_of parts.new; thread = thread.new; reply = result } }
-    ensures others { KeepsOthers parts.old parts.new }
+    ensures board { parts.new.banks.board ≡ parts.old.banks.board }
 {
     let Some(awaited) = thread.awaited else {
         return Reply::Waiting;
