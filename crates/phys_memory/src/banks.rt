@@ -3,6 +3,7 @@ ghost use Rattle.addr_base.specs.Range as range_words;
 ghost use Rattle.flat_model.specs.Memory as memory_words;
 ghost use Rattle.phys_memory.specs.Banks as spec;
 
+use crate::one_bank::{in_flash, in_peripherals, in_sram, put_in, word_in};
 use flat_model::{
     Board, Items, Memory, OutOfMemory, Range, opening_memory, put_byte, put_word, word_at,
 };
@@ -73,19 +74,47 @@ impl Banks {
     }
 
     /// The little-endian word of `n` bytes at an address, where a byte outside the banks counts as 0.
+    #[tactic(auto, using(crate::proofs::OneBankLemmas::word_flash, crate::proofs::OneBankLemmas::word_sram, crate::proofs::OneBankLemmas::word_peripherals))]
     pub fn load(&self, a: u32, n: u32) -> u32
         requires { n ≤ 4 }
         ensures { result ≡ memory_words.word_at self.now.board self.now.memory a n }
     {
-        word_at(&self.board, &self.memory, a as u64, n as u8)
+        let Banks { board, memory } = self;
+        // Nearly every word lies in one bank, which is looked up once for all its bytes.
+        if in_flash(board, a as u64, n as u64) {
+            word_in(memory.flash.as_slice(), (a - board.flash.base) as usize, n)
+        } else if in_sram(board, a as u64, n as u64) {
+            word_in(memory.sram.as_slice(), (a - board.sram.base) as usize, n)
+        } else if in_peripherals(board, a as u64, n as u64) {
+            word_in(
+                memory.peripherals.as_slice(),
+                (a - board.peripherals.base) as usize,
+                n,
+            )
+        } else {
+            word_at(board, memory, a as u64, n as u8)
+        }
     }
 
     /// Writes the low `n` bytes of a value at an address, the lowest first; outside the banks nothing changes.
+    #[tactic(auto, using(crate::proofs::OneBankLemmas::put_flash, crate::proofs::OneBankLemmas::put_sram, crate::proofs::OneBankLemmas::put_peripherals))]
     pub fn store(&mut self, a: u32, n: u32, value: u32)
         requires { n ≤ 4 }
         ensures { self.new ≡ spec.with_word self.old a n value }
     {
-        put_word(&self.board, &mut self.memory, a as u64, n as u8, value);
+        let Banks { board, memory } = self;
+        if in_flash(board, a as u64, n as u64) {
+            let at = (a - board.flash.base) as usize;
+            put_in(&mut memory.flash, at, n, value);
+        } else if in_sram(board, a as u64, n as u64) {
+            let at = (a - board.sram.base) as usize;
+            put_in(&mut memory.sram, at, n, value);
+        } else if in_peripherals(board, a as u64, n as u64) {
+            let at = (a - board.peripherals.base) as usize;
+            put_in(&mut memory.peripherals, at, n, value);
+        } else {
+            put_word(board, memory, a as u64, n as u8, value);
+        }
     }
 
     /// The little-endian word of `n` bytes at an address; none exactly where a byte is outside the banks.

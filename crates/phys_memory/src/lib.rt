@@ -2,6 +2,7 @@
 #![tactic(auto)]
 
 mod banks;
+mod one_bank;
 #[cfg(test)]
 mod tests;
 

@@ -81,6 +81,27 @@ fn a_word_is_written_within_the_banks_alone(rt: HostRuntime) -> Result<(), Fail>
 }
 
 #[test]
+fn a_word_across_the_end_of_a_bank_has_the_bytes_inside(rt: HostRuntime) -> Result<(), Fail> {
+    let board = board(rt.alloc())?;
+    let mut banks = Banks::new(rt.alloc(), &board)?;
+    banks.store(0x2001_FFFE, 4, 0x1122_3344);
+    banks.store(0x3FFF_FFFE, 4, 0x5566_7788);
+    for (a, n, value) in [
+        (0x2001_FFFE, 2, 0x3344),
+        (0x2001_FFFE, 4, 0x3344),
+        (0x2001_FFFC, 4, 0x3344_0000),
+        (0x2001_FFFF, 4, 0x33),
+        (0x4000_0000, 4, 0x5566),
+        (0x3FFF_FFFE, 4, 0x5566_0000),
+        (0x3FFF_FFFE, 2, 0),
+    ] {
+        assert!(rt; n <= 4);
+        assert_eq!(rt; banks.load(a, n), value, "{n} bytes at {a}");
+    }
+    Ok(())
+}
+
+#[test]
 fn a_range_of_zero_bytes_has_two_ends(rt: HostRuntime) -> Result<(), Fail> {
     let board = board(rt.alloc())?;
     let mut banks = Banks::new(rt.alloc(), &board)?;
