@@ -16,11 +16,19 @@ use std::alloc::Global;
 // How many interrupt lines there are.
 const LINES: usize = 64;
 
-// So many zero bytes.
+// How many zero bytes are copied at once.
+const BLOCK: usize = 1024;
+
+// So many zero bytes. They are copied a block at a time: a bank may have millions.
 fn zero_bytes(alloc: Global, n: usize) -> Result<Items<u8>, OutOfMemory>
     ensures { IfOk result (λ bytes. bytes ≡ replicate n 0) }
 {
-    let bytes = vec![in alloc; 0; n]?;
+    let zeros = vec![in alloc; 0; BLOCK]?;
+    let mut bytes = Vec::with_capacity(alloc, n)?;
+    'blocks: while bytes.len() < n {
+        let more = BLOCK.min(n - bytes.len());
+        bytes.extend_from_slice(&zeros[..more])?;
+    }
     Ok(Items::from_vec(bytes))
 }
 
