@@ -88,16 +88,37 @@ fn config_of_document(alloc: Global, document: &Table) -> Result<Config, ConfigE
     resolve_parts(alloc, document, board, boxes)
 }
 
-/// The configuration of an input, or its first refusal (docs/INPUT.md). Every configuration is sound.
+/// A document, and the configuration that it is.
+#[derive(Drop)]
+pub(crate) struct Accepted {
+    pub document: Table,
+    pub config: Config,
+}
+
+/// The configuration of an input with its document, or its first refusal.
 #[tactic(auto, unfolding(crate::specs::Accept::config_of))]
-pub fn accept(alloc: Global, bytes: &[u8]) -> Result<Config, ConfigErr>
-    ensures ok { IfOk result (λ config. config_of bytes.now ≡ Ok config) }
-    ensures sound { IfOk result IsSound }
+pub(crate) fn accept_document(alloc: Global, bytes: &[u8]) -> Result<Accepted, ConfigErr>
+    ensures ok { IfOk result (λ accepted. config_of bytes.now ≡ Ok accepted.config) }
+    ensures sound { IfOk result (λ accepted. IsSound accepted.config) }
     ensures cause { IfErr result (IsCause (config_of bytes.now)) }
 {
     if bytes.len() > INPUT_LIMIT {
         return Err(ConfigErr::Refused(Refused::TooLong));
     }
     let document = read_document(alloc, bytes)?;
-    config_of_document(alloc, &document)
+    let config = config_of_document(alloc, &document)?;
+    Ok(Accepted { document, config })
+}
+
+/// The configuration of an input, or its first refusal (docs/INPUT.md). Every configuration is sound.
+pub fn accept(alloc: Global, bytes: &[u8]) -> Result<Config, ConfigErr>
+    ensures ok { IfOk result (λ config. config_of bytes.now ≡ Ok config) }
+    ensures sound { IfOk result IsSound }
+    ensures cause { IfErr result (IsCause (config_of bytes.now)) }
+{
+    let Accepted {
+        document: _,
+        config,
+    } = accept_document(alloc, bytes)?;
+    Ok(config)
 }

@@ -9,7 +9,7 @@ ghost use Rattle.uvisor_run.specs.Headline.{IsAccepted, IsAnswered, IsBroken, Is
 ghost use Rattle.uvisor_run.specs.Output.{command_of, output_for, output_of, usage_output};
 ghost use Rattle.uvisor_run.specs.Runnable.{is_runnable};
 
-use crate::acceptance::{INPUT_LIMIT, accept};
+use crate::acceptance::{Accepted, INPUT_LIMIT, accept_document};
 use crate::answers::{NO_MEMORY, READ_FAULT, WRITE_FAULT, answer_refusal, answer_usage};
 use crate::check_writing::write_check;
 use crate::commands::{Command, command_of};
@@ -105,8 +105,13 @@ fn serve_bytes<K: Sink>(alloc: Global, command: Command, bytes: &[u8], sink: &mu
     ensures served { result ≡ 0 → IsServed command bytes.now }
     ensures known { (result ≤ 1) ⊎ ((result ≡ 4) ⊎ (result ≡ 5)) }
 {
-    match accept(alloc, bytes) {
-        Ok(config) => serve_config(alloc, command, config, sink),
+    match accept_document(alloc, bytes) {
+        Ok(Accepted { document, config }) => {
+            let status = serve_config(alloc, command, config, sink);
+            // A document has many small pieces. Given back before the machine takes its memory, all would be joined first.
+            drop(document);
+            status
+        }
         Err(ConfigErr::Refused(refusal)) => answer_refusal(refusal, sink),
         Err(ConfigErr::Memory) => NO_MEMORY,
     }
