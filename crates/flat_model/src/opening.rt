@@ -1,4 +1,4 @@
-ghost use Rattle.std.specs.Prelude.{◌≡◌, ℕ, ◌+◌, ◌^◌, ◌<◌, ◌≤◌, None, false, IfOk, map, replicate, length};
+ghost use Rattle.std.specs.Prelude.{◌≡◌, ◌<◌, None, false, IfOk, replicate};
 ghost use Rattle.std.specs.Option.{option_map_or};
 ghost use Rattle.flat_model.specs.Memory as memory_words;
 ghost use Rattle.flat_model.specs.Run as spec;

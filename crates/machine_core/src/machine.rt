@@ -1,10 +1,9 @@
-ghost use Rattle.std.specs.Prelude.{◌≡◌, ℕ, ◌+◌, ◌-◌, ◌*◌, ◌^◌, ◌<◌, ◌≤◌, true, false, [], ◌++◌, IfOk, length, map, slice_get, sum_by, vec_capacity, if◌then◌else◌};
+ghost use Rattle.std.specs.Prelude.{◌≡◌, ◌+◌, ◌-◌, ◌*◌, ◌<◌, ◌≤◌, true, [], IfOk, length, map, slice_get, sum_by, vec_capacity, if◌then◌else◌};
 ghost use Rattle.std.specs.Option.{option_map_or};
-ghost use Rattle.flat_model.specs.declared.events.Drive.TheVariants as drive_words;
 ghost use Rattle.flat_model.specs.Legal.{IsLegal};
 ghost use Rattle.flat_model.specs.Log.{choices_of};
 ghost use Rattle.flat_model.specs.OneLog.{log_of_choices};
-ghost use Rattle.flat_model.specs.Run.{end_of_thread, ends_of};
+ghost use Rattle.flat_model.specs.Run.{end_of_thread};
 ghost use Rattle.flat_model.specs.Sound.{IsSound};
 ghost use Rattle.flat_model.specs.Thread as thread_words;
 ghost use Rattle.flat_model.specs.Today.{RunsToday};

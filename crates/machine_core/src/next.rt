@@ -1,5 +1,4 @@
-ghost use Rattle.std.specs.Prelude.{◌≡◌, ℕ, ◌<◌, ◌≤◌, true, Some, slice_get};
-ghost use Rattle.flat_model.specs.AccessRows as access_words;
+ghost use Rattle.std.specs.Prelude.{◌≡◌, ◌<◌, true, Some, slice_get};
 ghost use Rattle.flat_model.specs.Interrupts as interrupts;
 ghost use Rattle.flat_model.specs.Today.{runs_today};
 ghost use Rattle.machine_core.specs.Next as spec;

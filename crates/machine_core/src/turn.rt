@@ -1,4 +1,4 @@
-ghost use Rattle.std.specs.Prelude.{◌≡◌, ℕ, ◌+◌, ◌^◌, ◌<◌, ◌≤◌, None, Some, true};
+ghost use Rattle.std.specs.Prelude.{◌≡◌, ◌+◌, ◌^◌, ◌<◌, None, Some, true};
 ghost use Rattle.flat_model.specs.AccessRows as access_words;
 ghost use Rattle.flat_model.specs.Local as local_words;
 ghost use Rattle.flat_model.specs.Thread as thread_words;

@@ -1,4 +1,4 @@
-ghost use Rattle.std.specs.Prelude.{◌≡◌, ℕ, ◌-◌};
+ghost use Rattle.std.specs.Prelude.{◌≡◌, ◌-◌};
 ghost use Rattle.flat_model.specs.Turn as spec;
 ghost use Rattle.machine_core.specs.Parts.{shared_of};
 

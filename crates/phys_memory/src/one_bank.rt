@@ -1,4 +1,4 @@
-ghost use Rattle.std.specs.Prelude.{◌≡◌, ℕ, ◌+◌, ◌^◌, ◌<◌, ◌≤◌, slice_index};
+ghost use Rattle.std.specs.Prelude.{◌≡◌, ◌+◌, ◌^◌, ◌<◌, ◌≤◌, slice_index};
 ghost use Rattle.addr_base.specs.Range as range_words;
 ghost use Rattle.flat_model.specs.Cells as cell_words;
 ghost use Rattle.phys_memory.specs.OneBank as spec;

@@ -1,11 +1,10 @@
-ghost use Rattle.std.specs.Prelude.{◌≡◌, ◌≢◌, ◌≤◌, ◌⊎◌, true, map, string_bytes, Some, IsNone, IsSome, IfSome, is_none};
+ghost use Rattle.std.specs.Prelude.{◌≡◌, ◌≢◌, ◌≤◌, ◌⊎◌, true, map, string_bytes, Some, IsNone, IsSome, IfSome};
 ghost use Rattle.flat_model.specs.Log.{IsNamed};
 ghost use Rattle.flat_model.specs.OneLog.{script_log};
 ghost use Rattle.flat_model.specs.Sound.{IsSound};
 ghost use Rattle.flat_model.specs.Text.{text_of};
 ghost use Rattle.io_edge.specs.Counts.{Rose};
-ghost use Rattle.uvisor_run.specs.Accept.{config_of};
-ghost use Rattle.uvisor_run.specs.Headline.{IsAccepted, IsAnswered, IsBroken, IsDone, IsRun, IsScriptRun, IsServed, IsTold, WereLeft};
+ghost use Rattle.uvisor_run.specs.Headline.{IsAccepted, IsAnswered, IsBroken, IsRun, IsScriptRun, IsServed, IsTold};
 ghost use Rattle.uvisor_run.specs.Output.{command_of, output_for, output_of, usage_output};
 ghost use Rattle.uvisor_run.specs.Runnable.{is_runnable};
 
