@@ -1,7 +1,7 @@
 ghost use Rattle.std.specs.Prelude.{◌≡◌, ◌<◌, ◌≤◌, ◌∷◌, [], ◌++◌, None, IfOk, IfErr, OnOk, length, map};
 ghost use Rattle.flat_model.specs.First.{number};
 ghost use Rattle.acl_resolver.specs.Refusals.{first_numbered};
-ghost use Rattle.acl_resolver.specs.Resolve.{IsDue, bad_program, bad_program_at, bad_program_of, thread_part, thread_parts};
+ghost use Rattle.acl_resolver.specs.Resolve.{IsDue, bad_program, bad_program_at, thread_part, thread_parts};
 
 use crate::placing::numbered;
 use addr_base::BoxId;

@@ -1,5 +1,5 @@
-ghost use Rattle.std.specs.Prelude.{⊤, ◌≡◌, ◌==◌, [], ◌∷◌, codes};
-ghost use Rattle.addr_base.specs.Rights.{may_read, may_write, may_execute, gives};
+ghost use Rattle.std.specs.Prelude.{⊤, ◌≡◌, [], ◌∷◌, codes};
+ghost use Rattle.addr_base.specs.Rights.{gives};
 
 use bitflags::{Flag, Flags};
 

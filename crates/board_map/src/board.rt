@@ -1,9 +1,8 @@
-ghost use Rattle.std.specs.Prelude.{◌≡◌, Ok, IfOk, IfErr, option_map};
+ghost use Rattle.std.specs.Prelude.{◌≡◌, Ok, IfOk, IfErr};
 ghost use Rattle.flat_model.specs.First.{IsCause};
-ghost use Rattle.toml.specs.Data.{as_array};
-ghost use Rattle.toml.specs.View.{items_view, table_view, view};
+ghost use Rattle.toml.specs.View.{items_view, table_view};
 ghost use Rattle.flat_model.specs.declared.refusals.Key.TheVariants as key;
-ghost use Rattle.board_map.specs.Tree.{items_or_none, table_at};
+ghost use Rattle.board_map.specs.Tree.{table_at};
 ghost use Rattle.board_map.specs.BoardText.{board_of, board_reading, heap_of, members_or_none, range_of, secret_of, word_of, words_of};
 
 use crate::rules::board_fault;

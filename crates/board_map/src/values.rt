@@ -1,10 +1,9 @@
-ghost use Rattle.std.specs.Prelude.{◌≡◌, ◌≤◌, Option, option_and_then, option_copied, option_map};
-ghost use Rattle.flat_model.specs.First.{number};
+ghost use Rattle.std.specs.Prelude.{◌≡◌, Option, option_and_then, option_map};
 ghost use Rattle.flat_model.specs.declared.refusals.Key.TheVariants as key;
 ghost use Rattle.toml.specs.View.{items_view, table_view, view};
 ghost use Rattle.toml.specs.Data.{as_array, as_bool, as_str};
 ghost use Rattle.board_map.specs.Values.{all_fit, all_words, are_all, are_two_words, fits, fits_each, in_array, is_between, is_choice, is_place, may_own};
-ghost use Rattle.board_map.specs.Tree.{count, items_at, natural_of, value_at};
+ghost use Rattle.board_map.specs.Tree.{natural_of, value_at};
 
 use crate::rows::{Choice, Each, Form, Limit, Rule};
 use crate::totals::Totals;

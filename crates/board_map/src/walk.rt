@@ -3,12 +3,9 @@ ghost use Rattle.std.specs.List.{list_any};
 ghost use Rattle.std.specs.BTreeMap.{keys};
 ghost use Rattle.flat_model.specs.First.{first_of, refuse_if, unless_refused};
 ghost use Rattle.flat_model.specs.declared.refusals.Key.TheVariants as key;
-ghost use Rattle.flat_model.specs.declared.refusals.Spot.TheVariants as spot;
-ghost use Rattle.toml.specs.View.{items_view, table_view, view};
-ghost use Rattle.toml.specs.Data.{as_table};
-ghost use Rattle.board_map.specs.declared.rows.Form.TheVariants as form;
-ghost use Rattle.board_map.specs.Shape.{Place, array_key, box_places, boxes_in, board_places, has_unknown, is_bad, is_known, opening, place_at, places, places_in, pass_refusal, row_refusal, sections, shape_refusal, spot_in, table_refusal, turn, walk};
-ghost use Rattle.board_map.specs.Tree.{items_at, table_at, value_at};
+ghost use Rattle.toml.specs.View.{items_view, table_view};
+ghost use Rattle.board_map.specs.Shape.{array_key, box_places, boxes_in, board_places, has_unknown, is_bad, is_known, opening, place_at, places, places_in, pass_refusal, row_refusal, sections, shape_refusal, spot_in, table_refusal, turn, walk};
+ghost use Rattle.board_map.specs.Tree.{table_at, value_at};
 
 use crate::limits::{after, is_over};
 use crate::rows::{Form, Format, Row, key_name, rows};

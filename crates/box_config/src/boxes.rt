@@ -1,6 +1,6 @@
-ghost use Rattle.std.specs.Prelude.{◌≡◌, ◌-◌, IfErr, IfOk, Ok, length};
+ghost use Rattle.std.specs.Prelude.{◌≡◌, ◌-◌, IfErr, IfOk, Ok};
 ghost use Rattle.flat_model.specs.First.{IsCause};
-ghost use Rattle.toml.specs.View.{items_view, table_view, view};
+ghost use Rattle.toml.specs.View.{items_view, table_view};
 ghost use Rattle.box_config.specs.Names.{boxes_reading};
 ghost use Rattle.box_config.specs.Texts.{box_text, boxes_of, from_tables, server_among};
 

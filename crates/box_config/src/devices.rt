@@ -1,5 +1,5 @@
 ghost use Rattle.std.specs.Prelude.{◌≡◌, IfOk};
-ghost use Rattle.toml.specs.View.{items_view, table_view, view};
+ghost use Rattle.toml.specs.View.{items_view, table_view};
 ghost use Rattle.box_config.specs.Texts.{device_part, devices_of, from_tables, lines_of};
 
 use crate::parts::line_of;

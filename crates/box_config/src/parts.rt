@@ -1,5 +1,5 @@
 ghost use Rattle.std.specs.Prelude.{◌≡◌, ◌<◌, IfOk};
-ghost use Rattle.toml.specs.View.{items_view, table_view, view};
+ghost use Rattle.toml.specs.View.{items_view, table_view};
 ghost use Rattle.box_config.specs.Texts.{from_tables, grant_text, irq_part, line_of, op_at, rights_at, round_at, thread_text};
 
 use crate::texts::{text_or_empty, word_at};

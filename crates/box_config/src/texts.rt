@@ -1,6 +1,5 @@
 ghost use Rattle.std.specs.Prelude.{◌≡◌, IfOk, map, string_bytes};
-ghost use Rattle.toml.specs.Data.{as_str};
-ghost use Rattle.toml.specs.View.{items_view, table_view, view};
+ghost use Rattle.toml.specs.View.{items_view, table_view};
 ghost use Rattle.box_config.specs.Texts.{script_of, strings_of, text_or_empty, word_at};
 
 use board_map::{array_at, integer_at, text_at};

@@ -2,7 +2,6 @@ ghost use Rattle.std.specs.Prelude.{◌≡◌, ◌≤◌, All, IfOk, vec_len};
 ghost use Rattle.flat_model.specs.Operands.{IsValidInstr};
 ghost use Rattle.box_program.specs.Words.{words};
 ghost use Rattle.box_program.specs.Numbers.{number};
-ghost use Rattle.box_program.specs.Opcodes.{row};
 ghost use Rattle.box_program.specs.Program.{register, number_within, operand, operand_at, instruction_with, instruction, bad_line, program, Assembles};
 ghost use Rattle.box_program.specs.Steps.{with_line, Pushes};
 ghost use Rattle.flat_model.specs.declared.instructions.AssembleErr.TheVariants.{Bad};

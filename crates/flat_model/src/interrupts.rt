@@ -1,6 +1,5 @@
-ghost use Rattle.std.specs.Prelude.{◌≡◌, ℕ, ◌-◌, ◌<◌, ◌≤◌, length};
+ghost use Rattle.std.specs.Prelude.{◌≡◌, ◌-◌, ◌<◌};
 ghost use Rattle.flat_model.specs.Interrupts as spec;
-ghost use Rattle.flat_model.specs.Thread as thread_words;
 ghost use Rattle.flat_model.specs.Turn as turn_words;
 
 use crate::events::Reply;

@@ -1,4 +1,4 @@
-ghost use Rattle.std.specs.Prelude.{◌≡◌, ℕ, ◌<◌, ◌≤◌, None, Some, MatchOption, slice_set};
+ghost use Rattle.std.specs.Prelude.{◌≡◌, ◌<◌, None, Some, MatchOption};
 ghost use Rattle.flat_model.specs.declared.events.Reply.TheVariants as reply;
 ghost use Rattle.flat_model.specs.Local as spec;
 ghost use Rattle.flat_model.specs.Thread as thread_words;

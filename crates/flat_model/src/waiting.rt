@@ -1,4 +1,4 @@
-ghost use Rattle.std.specs.Prelude.{◌≡◌, ℕ, ◌-◌, ◌<◌, ◌≤◌};
+ghost use Rattle.std.specs.Prelude.{◌≡◌, ◌-◌, ◌<◌};
 ghost use Rattle.flat_model.specs.Calls as calls_words;
 ghost use Rattle.flat_model.specs.Thread as thread_words;
 ghost use Rattle.flat_model.specs.Turn as spec;

@@ -7,8 +7,8 @@
 //   0        ENABLE
 //
 // All other bits are 0.
-ghost use Rattle.std.specs.Prelude.{◌≡◌, ℕ, true, ◌+◌, ◌^◌, ◌<◌};
-ghost use Rattle.flat_model.specs.Decision.{access_field, has_zero_rest, is_disabled, is_enabled, is_region, lets_read, matches, never_field, pair_gives, region_contains, region_len, size_field, subregions};
+ghost use Rattle.std.specs.Prelude.{◌≡◌, true, ◌+◌, ◌^◌, ◌<◌};
+ghost use Rattle.flat_model.specs.Decision.{access_field, has_zero_rest, is_disabled, is_enabled, is_region, lets_read, matches, pair_gives, region_contains, region_len, size_field, subregions};
 
 use flat_model::{Kind, Pair};
 

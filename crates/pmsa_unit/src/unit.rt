@@ -1,4 +1,4 @@
-ghost use Rattle.std.specs.Prelude.{◌≡◌, ℕ, true, ◌<◌, ◌↔◌, IfErr, IsOk, OnErr, OnOk, replicate, slice_get, slice_set, Some};
+ghost use Rattle.std.specs.Prelude.{◌≡◌, true, ◌<◌, ◌↔◌, IfErr, IsOk, OnErr, OnOk, replicate, slice_get, slice_set, Some};
 ghost use Rattle.flat_model.specs.Decision.{decision, is_region};
 ghost use Rattle.flat_model.specs.Plan.{REGIONS, no_pair};
 

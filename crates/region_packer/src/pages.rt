@@ -1,4 +1,4 @@
-ghost use Rattle.std.specs.Prelude.{◌≡◌, ℕ, true, ◌+◌, ◌*◌, ◌%◌, ◌^◌, ◌<◌, ◌≤◌, ◌↔◌, IfSome, IsNone};
+ghost use Rattle.std.specs.Prelude.{◌≡◌, true, ◌+◌, ◌*◌, ◌%◌, ◌<◌, ◌≤◌, ◌↔◌, IfSome, IsNone};
 ghost use Rattle.std.specs.Int.{IsPowerOfTwo};
 ghost use Rattle.flat_model.specs.Cover.{exponent_of, group_pair};
 ghost use Rattle.flat_model.specs.Decision.{is_region};

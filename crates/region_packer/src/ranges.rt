@@ -2,7 +2,7 @@ ghost use Rattle.std.specs.Prelude.{◌≡◌, ℕ, true, ◌+◌, ◌%◌, ◌^
 ghost use Rattle.std.specs.List.{list_any};
 ghost use Rattle.addr_base.specs.declared.rights.Kind.{Kind};
 ghost use Rattle.addr_base.specs.Range.{ADDRESS_END, end_of, in_range};
-ghost use Rattle.addr_base.specs.Rights.{gives, may_read};
+ghost use Rattle.addr_base.specs.Rights.{gives};
 ghost use Rattle.flat_model.specs.Cover.{attributes, cover_of};
 ghost use Rattle.flat_model.specs.Decision.{is_region, matches, pair_gives};
 ghost use Rattle.flat_model.specs.Sound.{IsGrantRights};

@@ -1,7 +1,7 @@
-ghost use Rattle.std.specs.Prelude.{◌≡◌, ℕ, ◌+◌, ◌%◌, ◌^◌, ◌<◌, ◌≤◌, IfOk, IfSome, map};
+ghost use Rattle.std.specs.Prelude.{◌≡◌, ◌+◌, ◌^◌, ◌<◌, ◌≤◌, IfOk, IfSome, map};
 ghost use Rattle.std.specs.List.{AllByRecursion};
-ghost use Rattle.flat_model.specs.Cover.{NO_ACCESS, attributes, pair_of};
-ghost use Rattle.flat_model.specs.Plan.{flash_pair, grant_pairs, overlay_pair, own_pair};
+ghost use Rattle.flat_model.specs.Cover.{pair_of};
+ghost use Rattle.flat_model.specs.Plan.{grant_pairs, overlay_pair};
 ghost use Rattle.flat_model.specs.Sound.{IsSound};
 ghost use Rattle.region_rotation.specs.Coverable.{IsCoverable};
 ghost use Rattle.region_rotation.specs.Rotation.{home_pairs};

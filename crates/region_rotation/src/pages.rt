@@ -1,4 +1,4 @@
-ghost use Rattle.std.specs.Prelude.{◌≡◌, ℕ, ◌+◌, ◌*◌, ◌/◌, ◌<◌, ◌≤◌, Some, length};
+ghost use Rattle.std.specs.Prelude.{◌≡◌, ◌+◌, ◌*◌, ◌/◌, ◌<◌, ◌≤◌, Some, length};
 ghost use Rattle.flat_model.specs.Access.{owned_by};
 ghost use Rattle.flat_model.specs.Plan.{first_serving, owned_mask, page_pairs, serves};
 ghost use Rattle.region_rotation.specs.Ready.{IsHeapBelow};

@@ -1,4 +1,4 @@
-ghost use Rattle.std.specs.Prelude.{◌≡◌, ℕ, ◌+◌, ◌<◌, ◌≤◌, length, slice_set};
+ghost use Rattle.std.specs.Prelude.{◌≡◌, ◌+◌, ◌<◌, length, slice_set};
 ghost use Rattle.flat_model.specs.Plan.{REGIONS, flushed_pairs, next_slot, slots_from};
 ghost use Rattle.region_rotation.specs.Ready.{IsKnown};
 

@@ -1,6 +1,6 @@
 ghost use Rattle.std.specs.Prelude.{◌≡◌};
 ghost use Rattle.run_log.specs.Candidates.{box_of, done_of, end_of, flaw_of, frames_of, had_room, idle_of, item_of, kind_of, mode_of, reply_of, ring_of, start_of, start_reply_of, started_of, thread_of, ticket_of, turn_of, unit_of, verdict_of};
-ghost use Rattle.run_log.specs.LineWords.{digit_of, is_dot, is_hash, is_space, number_of, small_of, word_at, words_of};
+ghost use Rattle.run_log.specs.LineWords.{number_of, small_of, word_at, words_of};
 
 use crate::items::{first_thread, home_of};
 use crate::words::{

@@ -1,4 +1,3 @@
-ghost use Rattle.std.specs.Prelude.{◌≡◌, ◌≢◌, ◌++◌, []};
 ghost use Rattle.uvisor_run.specs.Headline.{IsTold};
 ghost use Rattle.uvisor_run.specs.Output.{refused_output, usage_line, usage_output};
 

@@ -1,14 +1,6 @@
-ghost use Rattle.std.specs.Prelude.{◌≡◌, ◌+◌, ◌≤◌, ◌<◌, ◌-◌, [], ◌∷◌, ◌++◌, length, IsErr, OnErr, OnOk};
-ghost use Rattle.std.specs.Fmt.{decimal};
-ghost use Rattle.std.specs.Io.KnownBytes.{append_known};
-ghost use Rattle.std.specs.List.{AllByRecursion, flat_map};
+ghost use Rattle.std.specs.Prelude.{◌≡◌, ◌+◌, ◌≤◌, ◌<◌, [], ◌∷◌, ◌++◌, length};
 ghost use Rattle.flat_model.specs.Operands.{IsValidInstr};
-ghost use Rattle.flat_model.specs.Sound.{IsSound, IsThread};
-ghost use Rattle.flat_model.specs.Text.{line_of};
-ghost use Rattle.io_edge.specs.Counts.{Rose};
-ghost use Rattle.io_edge.specs.Written.{Wrote, WrotePart};
-ghost use Rattle.run_log.specs.Spaced.{spaced};
-ghost use Rattle.uvisor_run.specs.CheckText.{box_line, instruction_line, irq_text, item_text, letter, program_text, rights_text, server_line, thread_line};
+ghost use Rattle.uvisor_run.specs.CheckText.{box_line, instruction_line, irq_text, item_text, letter, rights_text, server_line, thread_line};
 
 use addr_base::Kind;
 use arrayvec::ArrayString;

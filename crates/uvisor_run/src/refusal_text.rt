@@ -1,5 +1,4 @@
 ghost use Rattle.std.specs.Prelude.{◌≡◌, ◌+◌, ◌≤◌, [], ◌∷◌, ◌++◌, length};
-ghost use Rattle.std.specs.Fmt.{decimal};
 ghost use Rattle.board_map.specs.Keys.{key_name};
 ghost use Rattle.run_log.specs.Spaced.{spaced};
 ghost use Rattle.uvisor_run.specs.RefusalText.{at_box, at_key, numbered, place_in_box, refusal_line, refusal_words, spot_words};
