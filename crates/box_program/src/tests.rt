@@ -2,6 +2,7 @@ use crate::{assemble, show};
 use arrayvec::ArrayString;
 use flat_model::{AssembleErr, BadLine, Instr, Why};
 use std::alloc::{AllocError, Global};
+use std::process::Abort;
 use std::test::Fail;
 
 fn refusal(alloc: Global, text: &str) -> Option<BadLine> {
@@ -108,8 +109,19 @@ fn other_spellings_are_read_too(rt: HostRuntime) {
     }
 }
 
+// The first bad line of each text, and what is bad about it.
+fn check_refusals(rt: &impl Abort, alloc: Global, table: &[(&str, u32, Why, &str)]) {
+    for (text, line, why, case) in table {
+        let bad = BadLine {
+            line: *line,
+            why: *why,
+        };
+        assert_eq!(rt; refusal(alloc, text), Some(bad), "{case}: {text}");
+    }
+}
+
 #[test]
-fn the_first_bad_line_is_answered(rt: HostRuntime) {
+fn a_wrong_word_and_a_wrong_count_are_answered(rt: HostRuntime) {
     let table = [
         ("fly", 1, Why::Word, "an unknown word"),
         ("SET r0 1", 1, Why::Word, "a word in upper case"),
@@ -134,6 +146,13 @@ fn the_first_bad_line_is_answered(rt: HostRuntime) {
             Why::Count,
             "the count comes before the number",
         ),
+    ];
+    check_refusals(&rt, rt.alloc(), &table);
+}
+
+#[test]
+fn a_wrong_register_is_answered(rt: HostRuntime) {
+    let table = [
         ("set r9 1", 1, Why::Register, "there is no r9"),
         ("mov r0 r8", 1, Why::Register, "there is no r8"),
         ("mov r00 r1", 1, Why::Register, "a register has one digit"),
@@ -151,6 +170,13 @@ fn the_first_bad_line_is_answered(rt: HostRuntime) {
             Why::Register,
             "the second operand comes before the third",
         ),
+    ];
+    check_refusals(&rt, rt.alloc(), &table);
+}
+
+#[test]
+fn a_number_that_is_too_large_or_too_small_is_answered(rt: HostRuntime) {
+    let table = [
         ("rpc_sync 65536 0", 1, Why::Number, "both numbers are bad"),
         ("rpc_sync 0 0", 1, Why::Number, "no look is left"),
         ("rpc_sync 0 65536", 1, Why::Number, "too many looks"),
@@ -160,7 +186,6 @@ fn the_first_bad_line_is_answered(rt: HostRuntime) {
             Why::Number,
             "a small number is at most 65535",
         ),
-        ("jump 0x10000", 1, Why::Number, "in hexadecimal too"),
         (
             "set r0 4294967296",
             1,
@@ -179,6 +204,14 @@ fn the_first_bad_line_is_answered(rt: HostRuntime) {
             Why::Number,
             "a very long number",
         ),
+    ];
+    check_refusals(&rt, rt.alloc(), &table);
+}
+
+#[test]
+fn a_number_that_is_spelled_wrong_is_answered(rt: HostRuntime) {
+    let table = [
+        ("jump 0x10000", 1, Why::Number, "in hexadecimal too"),
         (
             "set r0 0x100000000",
             1,
@@ -198,6 +231,13 @@ fn the_first_bad_line_is_answered(rt: HostRuntime) {
         ("set r0 00", 1, Why::Number, "a leading zero before a zero"),
         ("set r0 +1", 1, Why::Number, "a sign"),
         ("set r0 1a", 1, Why::Number, "no decimal digit"),
+    ];
+    check_refusals(&rt, rt.alloc(), &table);
+}
+
+#[test]
+fn the_first_bad_line_is_answered(rt: HostRuntime) {
+    let table = [
         (
             "halt\n\n; fly\n\tfly\nset r9 1",
             4,
@@ -211,13 +251,7 @@ fn the_first_bad_line_is_answered(rt: HostRuntime) {
             "lines end in a line feed",
         ),
     ];
-    for (text, line, why, case) in table {
-        assert_eq!(rt;
-            refusal(rt.alloc(), text),
-            Some(BadLine { line, why }),
-            "{case}: {text}"
-        );
-    }
+    check_refusals(&rt, rt.alloc(), &table);
 }
 
 #[test]

@@ -90,93 +90,101 @@ fn a_line_belongs_to_one_box(rt: HostRuntime) -> Result<(), Fail> {
     )
 }
 
+// The refusal of a register.
+fn bad_register(k: u32) -> Option<Refused> {
+    Some(Refused::BadGateway {
+        spot: Spot::Register(k),
+    })
+}
+
+// The refusal of a gateway.
+fn bad_gateway(k: u32) -> Option<Refused> {
+    Some(Refused::BadGateway {
+        spot: Spot::Gateway(k),
+    })
+}
+
+#[test]
+fn a_register_lies_in_the_peripherals_and_names_boxes(rt: HostRuntime) -> Result<(), Fail> {
+    let two = [lined(&[]), lined(&[])];
+    let cases: [(&str, &[(u32, &[&str])], Option<Refused>); 4] = [
+        (
+            "registers that are good",
+            &[(0x40000100, &["b", "a", "a"]), (0x400FFFFC, &[])],
+            None,
+        ),
+        ("no multiple of 4", &[(0x40000102, &["a"])], bad_register(0)),
+        (
+            "a later one behind the peripherals",
+            &[(0x40000100, &["a"]), (0x40100000, &["a"])],
+            bad_register(1),
+        ),
+        (
+            "a box that is not there",
+            &[(0x40000100, &["a", "c"])],
+            bad_register(0),
+        ),
+    ];
+    for (what, registers, want) in cases {
+        let gates = Gates {
+            registers,
+            gateways: &[("b", &["a", "b"])],
+        };
+        check_names(&rt, rt.alloc(), what, &two, gates, want)?;
+    }
+    Ok(())
+}
+
 #[test]
 fn a_gateway_names_boxes_that_are_there(rt: HostRuntime) -> Result<(), Fail> {
     let two = [lined(&[]), lined(&[])];
-    let register = |k| Some(Refused::BadGateway {
-        spot: Spot::Register(k),
-    });
-    let gateway = |k| Some(Refused::BadGateway {
-        spot: Spot::Gateway(k),
-    });
-    let cases: [(&str, Gates, Option<Refused>); 9] = [
-        (
-            "registers and gateways that are good",
-            Gates {
-                registers: &[(0x40000100, &["b", "a", "a"]), (0x400FFFFC, &[])],
-                gateways: &[("b", &["a", "b"])],
-            },
-            None,
-        ),
-        (
-            "a register that is no multiple of 4",
-            Gates {
-                registers: &[(0x40000102, &["a"])],
-                gateways: &[],
-            },
-            register(0),
-        ),
-        (
-            "a later register behind the peripherals",
-            Gates {
-                registers: &[(0x40000100, &["a"]), (0x40100000, &["a"])],
-                gateways: &[],
-            },
-            register(1),
-        ),
-        (
-            "a register for a box that is not there",
-            Gates {
-                registers: &[(0x40000100, &["a", "c"])],
-                gateways: &[],
-            },
-            register(0),
-        ),
+    let cases: [(&str, &[(&str, &[&str])], Option<Refused>); 3] = [
         (
             "a caller that is no box",
-            Gates {
-                registers: &[],
-                gateways: &[("a", &["b"]), ("b", &["a", "ab"])],
-            },
-            gateway(1),
+            &[("a", &["b"]), ("b", &["a", "ab"])],
+            bad_gateway(1),
         ),
         (
             "a target that is no box",
-            Gates {
-                registers: &[],
-                gateways: &[("c", &["a"])],
-            },
+            &[("c", &["a"])],
             Some(Refused::NoServer { gateway: 0 }),
         ),
         (
             "a later target that is no box",
-            Gates {
-                registers: &[],
-                gateways: &[("b", &[]), ("", &["a"])],
-            },
+            &[("b", &[]), ("", &["a"])],
             Some(Refused::NoServer { gateway: 1 }),
         ),
-        (
-            "a caller comes before a target",
-            Gates {
-                registers: &[],
-                gateways: &[("c", &["c"])],
-            },
-            gateway(0),
-        ),
-        (
-            "a register comes before a target",
-            Gates {
-                registers: &[(0x40000100, &["a"]), (3, &[])],
-                gateways: &[("c", &["a"])],
-            },
-            register(1),
-        ),
     ];
-    for (what, gates, want) in cases {
+    for (what, gateways, want) in cases {
+        let gates = Gates {
+            registers: &[],
+            gateways,
+        };
         check_names(&rt, rt.alloc(), what, &two, gates, want)?;
     }
     Ok(())
+}
+
+#[test]
+fn a_caller_and_a_register_come_before_a_target(rt: HostRuntime) -> Result<(), Fail> {
+    let two = [lined(&[]), lined(&[])];
+    let caller = Gates {
+        registers: &[],
+        gateways: &[("c", &["c"])],
+    };
+    check_names(&rt, rt.alloc(), "a caller", &two, caller, bad_gateway(0))?;
+    let register = Gates {
+        registers: &[(0x40000100, &["a"]), (3, &[])],
+        gateways: &[("c", &["a"])],
+    };
+    check_names(
+        &rt,
+        rt.alloc(),
+        "a register",
+        &two,
+        register,
+        bad_register(1),
+    )
 }
 
 // What is refused of the programs of these boxes, of devices and of a script.
@@ -203,18 +211,13 @@ fn check_runs(
 }
 
 #[test]
-fn a_program_a_device_and_a_script_are_refused_where_they_are_bad(
-    rt: HostRuntime,
-) -> Result<(), Fail> {
+fn a_bad_program_is_refused_at_its_line(rt: HostRuntime) -> Result<(), Fail> {
     let good = lined(&[9]);
-    let bad = programmed("halt\nfly");
     let program = |at_box, line| Some(Refused::BadProgram {
         at_box,
         thread: 0,
         line,
     });
-    let script = |at| Some(Refused::BadScript { at });
-    let device = |device| Some(Refused::BadDevice { device });
     check_runs(
         &rt,
         rt.alloc(),
@@ -228,7 +231,7 @@ fn a_program_a_device_and_a_script_are_refused_where_they_are_bad(
         &rt,
         rt.alloc(),
         "the first program",
-        &[bad, good],
+        &[programmed("halt\nfly"), good],
         &[&[1]],
         &["c"],
         program(0, 2),
@@ -241,7 +244,13 @@ fn a_program_a_device_and_a_script_are_refused_where_they_are_bad(
         &[],
         &[],
         program(1, 1),
-    )?;
+    )
+}
+
+#[test]
+fn a_device_rings_lines_that_boxes_own(rt: HostRuntime) -> Result<(), Fail> {
+    let good = lined(&[9]);
+    let device = |device| Some(Refused::BadDevice { device });
     check_runs(
         &rt,
         rt.alloc(),
@@ -259,50 +268,22 @@ fn a_program_a_device_and_a_script_are_refused_where_they_are_bad(
         &[&[9], &[], &[9, 63]],
         &[],
         device(2),
-    )?;
-    check_runs(
-        &rt,
-        rt.alloc(),
-        "a line that no box owns",
-        &[good],
-        &[],
-        &["ring 8"],
-        script(0),
-    )?;
-    check_runs(
-        &rt,
-        rt.alloc(),
-        "a thread that is not there",
-        &[good],
-        &[],
-        &["a.0", "a.1"],
-        script(1),
-    )?;
-    check_runs(
-        &rt,
-        rt.alloc(),
-        "a leading zero",
-        &[good],
-        &[],
-        &["a.0", "ring 9", "ring 09"],
-        script(2),
-    )?;
-    check_runs(
-        &rt,
-        rt.alloc(),
-        "two spaces",
-        &[good],
-        &[],
-        &["ring  9"],
-        script(0),
-    )?;
-    check_runs(
-        &rt,
-        rt.alloc(),
-        "a name alone",
-        &[good],
-        &[],
-        &["a.0", "a"],
-        script(1),
     )
+}
+
+#[test]
+fn a_script_names_threads_and_lines_by_their_one_spelling(rt: HostRuntime) -> Result<(), Fail> {
+    let good = [lined(&[9])];
+    let cases: [(&str, &[&str], u32); 5] = [
+        ("a line that no box owns", &["ring 8"], 0),
+        ("a thread that is not there", &["a.0", "a.1"], 1),
+        ("a leading zero", &["a.0", "ring 9", "ring 09"], 2),
+        ("two spaces", &["ring  9"], 0),
+        ("a name alone", &["a.0", "a"], 1),
+    ];
+    for (what, words, at) in cases {
+        let want = Some(Refused::BadScript { at });
+        check_runs(&rt, rt.alloc(), what, &good, &[], words, want)?;
+    }
+    Ok(())
 }

@@ -182,7 +182,12 @@ fn a_grant_lies_in_the_peripherals_or_in_the_common_part(rt: HostRuntime) -> Res
         Some(0x20000300),
         &[PLAIN, common],
         outside(1, 0),
-    )?;
+    )
+}
+
+#[test]
+fn a_grant_ends_where_its_part_of_memory_ends(rt: HostRuntime) -> Result<(), Fail> {
+    let outside = |at_box, grant| Some(Refused::GrantOutside { at_box, grant });
     let across = granted(&[
         (0x400FFFE0, 0x20, Round::Plain, false),
         (0x400FFFE0, 0x40, Round::Plain, false),
@@ -236,46 +241,41 @@ fn a_grant_that_overlaps_an_earlier_one_of_its_box_is_refused(rt: HostRuntime) -
     )
 }
 
+// The refusal of two boxes whose grants overlap.
+fn clash(first: u32, second: u32) -> Option<Refused> {
+    Some(Refused::Clash { first, second })
+}
+
 #[test]
 fn grants_of_two_boxes_overlap_only_where_both_are_shared(rt: HostRuntime) -> Result<(), Fail> {
-    let clash = |first, second| Some(Refused::Clash { first, second });
+    let wide = granted(&[(0x40000000, 0x44, Round::Up, false)]);
+    let narrow = granted(&[(0x40000060, 0x20, Round::Plain, false)]);
+    let shared_wide = granted(&[(0x40000000, 0x44, Round::Up, true)]);
+    let shared_narrow = granted(&[(0x40000060, 0x20, Round::Plain, true)]);
+    let cases = [
+        ("neither is shared", wide, narrow, clash(0, 1)),
+        ("both are shared", shared_wide, shared_narrow, None),
+        (
+            "only the earlier is shared",
+            shared_wide,
+            narrow,
+            clash(0, 1),
+        ),
+        ("only the later is shared", wide, shared_narrow, clash(0, 1)),
+    ];
+    for (what, first, second, want) in cases {
+        check(&rt, rt.alloc(), what, None, &[first, second], want)?;
+    }
+    Ok(())
+}
+
+#[test]
+fn a_clash_names_the_least_two_boxes(rt: HostRuntime) -> Result<(), Fail> {
     let wide = granted(&[(0x40000000, 0x44, Round::Up, false)]);
     let narrow = granted(&[(0x40000060, 0x20, Round::Plain, false)]);
     let shared_wide = granted(&[(0x40000000, 0x44, Round::Up, true)]);
     let shared_narrow = granted(&[(0x40000060, 0x20, Round::Plain, true)]);
     let touching = granted(&[(0x40000080, 0x20, Round::Plain, false)]);
-    check(
-        &rt,
-        rt.alloc(),
-        "neither is shared",
-        None,
-        &[wide, narrow],
-        clash(0, 1),
-    )?;
-    check(
-        &rt,
-        rt.alloc(),
-        "both are shared",
-        None,
-        &[shared_wide, shared_narrow],
-        None,
-    )?;
-    check(
-        &rt,
-        rt.alloc(),
-        "only the earlier is shared",
-        None,
-        &[shared_wide, narrow],
-        clash(0, 1),
-    )?;
-    check(
-        &rt,
-        rt.alloc(),
-        "only the later is shared",
-        None,
-        &[wide, shared_narrow],
-        clash(0, 1),
-    )?;
     check(&rt, rt.alloc(), "they touch", None, &[wide, touching], None)?;
     check(
         &rt,

@@ -186,6 +186,31 @@ fn rounded_grants_of_two_boxes_clash(rt: HostRuntime) -> Result<(), Fail> {
     Ok(())
 }
 
+// What box `b` may access: flash, its own memory, and its grant.
+const ITEMS_OF_B: [Item; 3] = [
+    Item {
+        range: Range {
+            base: 0,
+            len: 0x100000,
+        },
+        rights: Rights::READ_EXECUTE,
+    },
+    Item {
+        range: Range {
+            base: 0x20000100,
+            len: 0x100,
+        },
+        rights: Rights::READ_WRITE,
+    },
+    Item {
+        range: Range {
+            base: 0x20000400,
+            len: 0x20,
+        },
+        rights: Rights::READ_WRITE,
+    },
+];
+
 #[test]
 fn the_parts_of_two_boxes_make_a_configuration(rt: HostRuntime) -> Result<(), Fail> {
     let alloc = rt.alloc();
@@ -202,30 +227,11 @@ fn the_parts_of_two_boxes_make_a_configuration(rt: HostRuntime) -> Result<(), Fa
     assert_eq!(rt; made.boxes.len(), 2, "boxes");
     assert_eq!(rt; made.threads.len(), 2, "threads");
     let last = &made.boxes.as_slice()[1];
-    let items = [
-        Item {
-            range: Range {
-                base: 0,
-                len: 0x100000,
-            },
-            rights: Rights::READ_EXECUTE,
-        },
-        Item {
-            range: Range {
-                base: 0x20000100,
-                len: 0x100,
-            },
-            rights: Rights::READ_WRITE,
-        },
-        Item {
-            range: Range {
-                base: 0x20000400,
-                len: 0x20,
-            },
-            rights: Rights::READ_WRITE,
-        },
-    ];
-    assert_eq!(rt; last.items.as_slice(), items.as_slice(), "the items of b");
+    assert_eq!(rt;
+        last.items.as_slice(),
+        ITEMS_OF_B.as_slice(),
+        "the items of b"
+    );
     assert_eq!(rt; last.first, 1, "the first thread of b");
     let rounded = Range {
         base: 0x40000100,
