@@ -1,9 +1,10 @@
 -- Inner: no public contract cites this. What a turn of a thread that has not ended comes to, told once for the
 -- unit's lines and for what the thread does.
-use Rattle.std.specs.Prelude.{◌≡◌, ℕ, ◌<◌, ◌≤◌, ⊤, true, Option, Some, None, if◌then◌else◌, slice_get}
+use Rattle.std.specs.Prelude.{◌≡◌, ℕ, ◌<◌, ◌≤◌, ⊤, true, false, Option, Some, None, List, if◌then◌else◌, slice_get}
 use Rattle.flat_model.specs.declared.accesses.Access.{Access}
 use Rattle.flat_model.specs.declared.actors.Who.{Who}
 use Rattle.flat_model.specs.declared.events.Flaw.TheVariants as flaw
+use Rattle.flat_model.specs.declared.events.UnitLine.{UnitLine}
 use Rattle.flat_model.specs.declared.instructions.Instr.{Instr}
 use Rattle.flat_model.specs.declared.parts.BoxPart.{BoxPart}
 use Rattle.flat_model.specs.declared.parts.Config.{Config}
@@ -15,9 +16,11 @@ use Rattle.flat_model.specs.AccessRows.{access_of, access_row, aligned_access}
 use Rattle.flat_model.specs.Interrupts.{due_interrupt}
 use Rattle.flat_model.specs.Local.{local_row}
 use Rattle.flat_model.specs.Outcome.{Outcome, fault_row}
+use Rattle.flat_model.specs.Plan.{plan_of}
 use Rattle.flat_model.specs.Thread.{is_waiting}
 use Rattle.flat_model.specs.Today.{runs_today}
 use Rattle.flat_model.specs.Turn.{delivery_row, own_or_shared_row, waiting_row}
+use Rattle.flat_model.specs.UnitRun.{UnitState, lines_of_event, unit_after_event}
 use Rattle.machine_core.specs.declared.next.Next.{Next}
 use Rattle.machine_core.specs.declared.next.Next.TheVariants as next
 
@@ -45,6 +48,16 @@ next_of part thread m th t =
 abbrev pub touch_in : Next → Option Access
 touch_in (next.Access access) = aligned_access (Some access)
 touch_in _ = None
+
+-- the unit's lines before it
+abbrev pub lines_before : Config → Who → BoxPart → Shared → UnitState → Next → List UnitLine
+lines_before cfg who part m u n =
+    lines_of_event cfg who.home part (plan_of cfg m.owners who.home.0 part) u (touch_in n) false
+
+-- the unit once it has written them
+abbrev pub unit_before : Config → Who → BoxPart → Shared → UnitState → Next → UnitState
+unit_before cfg who part m u n =
+    unit_after_event cfg who.home part (plan_of cfg m.owners who.home.0 part) u (touch_in n) false
 
 -- what it does, once its step is counted
 abbrev pub row_of : Config → Who → BoxPart → Shared → ThreadState → Next → Outcome

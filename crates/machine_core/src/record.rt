@@ -180,7 +180,7 @@ fn record_box(
     record_access(cfg, rotator, owners, b, part, access, items);
 }
 
-// The thread's turn of a box, and the unit's lines before it, where the thread has not ended.
+// The unit's lines of a turn of a thread that has not ended, and what the thread does.
 fn record_live(
     cfg: &Config,
     actor: Actor<'_>,
@@ -197,47 +197,30 @@ fn record_live(
     requires rotation { rotator.old ≡ rotation_of cfg.now rotator.old.unit }
     requires found { slice_get cfg.now.boxes actor.who.home.0 ≡ Some actor.part.now }
     requires owners { HasOwners cfg.now.board.heap parts.old.owners }
-    requires room { length items.old.items
-        + length (unit_words.lines_of_event cfg.now actor.who.home actor.part.now
-        (plan_of cfg.now parts.old.owners actor.who.home.0 actor.part.now) rotator.old.unit
-        (next_words.touch_in (next_words.next_of actor.part.now actor.program.now (shared_of parts.old) thread.old actor.who.thread.0)) false)
+    requires room { let next = next_words.next_of actor.part.now actor.program.now (shared_of parts.old) thread.old actor.who.thread.0 in
+        length items.old.items
+        + length (next_words.lines_before cfg.now actor.who actor.part.now (shared_of parts.old) rotator.old.unit next)
         ≤ vec_capacity items.old }
 
     ensures exact { turn_row cfg.now actor.entry.who actor.entry.part.now actor.entry.program.now (shared_of parts.old) thread.old
         ≡ record { shared = shared_of parts.new; thread = thread.new; reply = result } }
     ensures board { parts.new.banks.board ≡ parts.old.banks.board }
-    ensures rotation { rotator.new ≡ rotation_of cfg.now (unit_words.unit_after_event cfg.now actor.entry.who.home actor.entry.part.now
-        (plan_of cfg.now parts.old.owners actor.entry.who.home.0 actor.entry.part.now) rotator.old.unit
-        (next_words.touch_in (next_words.next_of actor.entry.part.now actor.entry.program.now (shared_of parts.old) thread.old actor.entry.who.thread.0)) false) }
-    ensures items { items.new.items ≡ items.old.items
-        ++ map item.Unit (unit_words.lines_of_event cfg.now actor.entry.who.home actor.entry.part.now
-        (plan_of cfg.now parts.old.owners actor.entry.who.home.0 actor.entry.part.now) rotator.old.unit
-        (next_words.touch_in (next_words.next_of actor.entry.part.now actor.entry.program.now (shared_of parts.old) thread.old actor.entry.who.thread.0)) false) }
+    ensures rotation { let next = next_words.next_of actor.entry.part.now actor.entry.program.now (shared_of parts.old) thread.old actor.entry.who.thread.0 in
+        rotator.new ≡ rotation_of cfg.now
+        (next_words.unit_before cfg.now actor.entry.who actor.entry.part.now (shared_of parts.old) rotator.old.unit next) }
+    ensures items { let next = next_words.next_of actor.entry.part.now actor.entry.program.now (shared_of parts.old) thread.old actor.entry.who.thread.0 in
+        items.new.items ≡ items.old.items ++ map item.Unit
+        (next_words.lines_before cfg.now actor.entry.who actor.entry.part.now (shared_of parts.old) rotator.old.unit next) }
     ensures capacity { vec_capacity items.old ≤ vec_capacity items.new }
 {
-    let next = next_of(actor.part, actor.program, parts, thread, actor.who.thread);
+    let Actor { who, part, program } = actor;
+    let next = next_of(part, program, parts, thread, who.thread);
     let access = touch_in(next);
-    record_box(
-        cfg,
-        rotator,
-        &parts.owners,
-        actor.who.home,
-        actor.part,
-        access,
-        items,
-    );
-    live_row(
-        cfg,
-        actor.who,
-        actor.part,
-        actor.program,
-        parts,
-        thread,
-        next,
-    )
+    record_box(cfg, rotator, &parts.owners, who.home, part, access, items);
+    live_row(cfg, who, part, program, parts, thread, next)
 }
 
-// Who acts at a turn of a thread: none where there is no such thread, or it has ended.
+// Who acts at a turn of a thread: none where there is no such thread or box, or the thread has ended.
 fn actor_of<'a>(cfg: &'a Config, threads: &[ThreadState], t: ThreadId) -> Option<Actor<'a>>
     ensures none { IfNone result (unit_words.part_at cfg.now
         (unit_words.acting_box (slice_get cfg.now.threads t.0) (slice_get threads.now t.0)) ≡ None) }

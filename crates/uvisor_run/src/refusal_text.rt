@@ -1,7 +1,7 @@
 ghost use Rattle.std.specs.Prelude.{◌≡◌, ◌+◌, ◌≤◌, [], ◌∷◌, ◌++◌, length};
 ghost use Rattle.board_map.specs.Keys.{key_name};
 ghost use Rattle.run_log.specs.Spaced.{spaced};
-ghost use Rattle.uvisor_run.specs.RefusalText.{at_box, at_key, numbered, place_in_box, refusal_line, refusal_words, spot_words};
+ghost use Rattle.uvisor_run.specs.RefusalText.{at_box, at_grant, at_key, numbered, place_in_box, refusal_line, refusal_words, spot_words};
 
 use board_map::key_name;
 use flat_model::{Key, Refused, Spot};
@@ -115,6 +115,15 @@ fn push_at_place(name: &str, i: u32, inner: &str, j: u32, page: &mut Page)
     push_place(i, inner, j, page);
 }
 
+fn push_at_grant(name: &str, i: u32, j: u32, page: &mut Page)
+    requires short { length name.now ≤ 16 }
+    requires room { length page.old + 90 ≤ 4096 }
+    ensures text { page.new ≡ page.old ++ spaced (at_grant name.now i j) }
+    ensures long { length page.new ≤ length page.old + 90 }
+{
+    push_at_place(name, i, "grant", j, page);
+}
+
 fn push_at_number(name: &str, what: &str, n: u32, page: &mut Page)
     requires short { length name.now ≤ 16 }
     requires short_what { length what.now ≤ 16 }
@@ -162,23 +171,14 @@ fn push_words(refusal: Refused, page: &mut Page)
         Refused::BadName { at_box } => push_at_box("BadName", at_box, page),
         Refused::TwiceNamed { at_box } => push_at_box("TwiceNamed", at_box, page),
         Refused::NoRoom { at_box } => push_at_box("NoRoom", at_box, page),
-        Refused::BadGrant { at_box, grant } => push_at_place(
-            "BadGrant", at_box, "grant", grant, page,
-        ),
-        Refused::GrantOutside { at_box, grant } => push_at_place(
+        Refused::BadGrant { at_box, grant } => push_at_grant("BadGrant", at_box, grant, page),
+        Refused::GrantOutside { at_box, grant } => push_at_grant(
             "GrantOutside",
             at_box,
-            "grant",
             grant,
             page,
         ),
-        Refused::SelfOverlap { at_box, grant } => push_at_place(
-            "SelfOverlap",
-            at_box,
-            "grant",
-            grant,
-            page,
-        ),
+        Refused::SelfOverlap { at_box, grant } => push_at_grant("SelfOverlap", at_box, grant, page),
         Refused::Clash { first, second } => push_at_place("Clash", first, "box", second, page),
         Refused::LineTaken { at_box, irq } => push_at_place("LineTaken", at_box, "irq", irq, page),
         Refused::BadGateway { spot } => push_at_spot("BadGateway", spot, page),
