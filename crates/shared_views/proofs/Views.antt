@@ -1,5 +1,5 @@
 -- How the sums and the facts on all views follow a step, a split and a join.
-use Rattle.std.proofs.Common.{◌≡◌, ◌≢◌, ℕ, zero, suc, ◌+◌, ◌<◌, ◌≤◌, List, [], ◌∷◌, ◌++◌, drop, set, sum_by, cond, eqb, eq-eqb, ne_eqb, refl, ap, sym, ◌∙◌, subst, inl, inr, ⊎_elim, ◌⊎◌, arith}
+use Rattle.std.proofs.Common.{◌≡◌, ◌≢◌, ℕ, zero, suc, ◌+◌, ◌<◌, ◌≤◌, List, [], ◌∷◌, ◌++◌, length, drop, set, sum_by, cond, eqb, eq-eqb, ne_eqb, refl, ap, sym, ◌∙◌, subst, inl, inr, ⊎_elim, ◌⊎◌, arith}
 use mathlib.Core.Option.{some, some-injective, some-ne-none}
 use mathlib.Core.Logic.{dite}
 use native.Mathlib.Decide.{ℕ_discrete}
@@ -180,3 +180,23 @@ module _ {P : Type 0} where
   made_every F f zero k each j p e = absurd (some-ne-none p (sym e))
   made_every F f (suc n) k each zero p e = subst F (some-injective (f k) p e) (each k (omega arith) (omega arith))
   made_every F f (suc n) k each (suc j) p e = made_every F f n (suc k) (λ i low high. each i (omega arith) (omega arith)) j p e
+
+  -- one more part is made at the end
+  pub made_more : (f : ℕ → P) → (n k : ℕ) → made_from f k (suc n) ≡ made_from f k n ++ f (k + n) ∷ []
+  made_more f zero k = λ i. f (at_end i) ∷ []
+    where
+      at_end : k ≡ k + 0
+      at_end = omega arith
+  made_more f (suc n) k = ap (λ ps. f k ∷ ps) (made_more f n (suc k) ∙ ap (λ j. made_from f (suc k) n ++ f j ∷ []) further)
+    where
+      further : suc k + n ≡ k + suc n
+      further = omega arith
+
+  -- where each part counts nothing, so do all
+  pub made_zero : (g : P → ℕ) (f : ℕ → P) → ((k : ℕ) → g (f k) ≡ 0) → (n k : ℕ) → sum_by g (made_from f k n) ≡ 0
+  made_zero g f none zero k = refl
+  made_zero g f none (suc n) k = omega (arith, sum_by-cons g (f k) (made_from f (suc k) n), none k, made_zero g f none n (suc k))
+
+  pub made_length : (f : ℕ → P) → (n k : ℕ) → length (made_from f k n) ≡ n
+  made_length f zero k = refl
+  made_length f (suc n) k = ap suc (made_length f n (suc k))
