@@ -110,7 +110,7 @@ module _ {V E F : Type 0} where
       → map (shown_part id) m'.0 ≡ pass ∷ map (shown_part id) m.0
   joined_shows id id' f m m' other pass k is shows of =
       ap (λ (x : Sat V E F). map (shown_part id) x.0) is ∙ ap (λ (x : Sat V E F). map (shown_part id) (x.0 ++ m.0)) k.is
-          ∙ ap (λ (x : PassValue E F). x ∷ map (shown_part id) m.0) (one_shows id id' f other pass k shows of)
+      ∙ ap (λ (x : PassValue E F). x ∷ map (shown_part id) m.0) (one_shows id id' f other pass k shows of)
 
   pub joined_idle : (f : F) (m m' other : Sat V E F) (k : IsPass f other) → m' ≡ (other.0 ++ m.0, m.1) → All IsIdle m.0 → All IsIdle m'.0
   joined_idle f m m' other k is idle =

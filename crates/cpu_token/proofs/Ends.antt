@@ -23,7 +23,7 @@ module _ {P : Type 0} where
   made_zero g f none zero k = refl
   made_zero g f none (suc n) k = omega (arith, sum_by-cons g (f k) (made_from f (suc k) n), none k, made_zero g f none n (suc k))
 
-  all_of : (Q : P → Type 0) (v : List P) → ((j : ℕ) (p : P) → get_elem? v j ≡ some p → Q p) → All Q v
+  pub all_of : (Q : P → Type 0) (v : List P) → ((j : ℕ) (p : P) → get_elem? v j ≡ some p → Q p) → All Q v
   all_of Q [] each = All-nil Q
   all_of Q (x ∷ xs) each = All-cons Q x xs (each zero x refl) (all_of Q xs (λ j p e. each (suc j) p e))
 
@@ -56,8 +56,10 @@ module _ {V E F : Type 0} (entries : V → ℕ → List E) (fixed : V → F) (n 
     where
       total : (g : PassPart V E F → ℕ) → of_views g (fresh_parts V E n (fixed start) ∷ []) ≡ sum_by g (fresh_parts V E n (fixed start))
       total g = omega arith
+
       none_is : {h : ℕ} → None ≡ Some h → ⊥
       none_is e = cc
+
       each : Every (Agrees entries fixed value 0) (fresh_parts V E n (fixed start) ∷ [])
       each zero v j p e f = made_every (Agrees entries fixed value 0) (fresh_part V E (fixed start)) n 0
           (λ k _ _. record { same = ap fixed is; own = sym (fresh k); held = λ h none. absurd (none_is none) }) j p
@@ -79,7 +81,7 @@ module _ {V E F : Type 0} (entries : V → ℕ → List E) (fixed : V → F) (n 
       let r : Rule entries fixed n start s = final.1.0 in
       let at : get_elem? s.views id ≡ some v = final.1.1 in
       let most : (k : ℕ) → of_views (is_at part_number k) s.views ≤ sum_by (is_at part_number k) v =
-          λ k. dite (dec_lt k n) (λ inside. omega (arith, r.once k inside, all k inside)) (λ outside. omega (arith, r.none k (omega arith))) in
+      λ k. dite (dec_lt k n) (λ inside. omega (arith, r.once k inside, all k inside)) (λ outside. omega (arith, r.none k (omega arith))) in
       let sum : of_views is_holder s.views ≡ sum_by is_holder v = of_all part_number is_holder s.views id v at most in
       let free : get_or s.words 0 0 % 2 ≡ 0 = sym r.holding ∙ sum ∙ idle_sum v idle in
       record {
@@ -106,10 +108,10 @@ module _ {V E F : Type 0} (entries : V → ℕ → List E) (fixed : V → F) (n 
       let of : id' ≡ id = ap (λ (x : PassValue E F). x.token) shows ∙ popped.1 ∙ sym (ap (λ (x : TokenValue). x.id) t_is) in
       let shown : items ≡ map (shown_part id) m'.0 = items_is ∙ ap (λ (x : List (PassValue E F)). others ++ x) (sym (alone_shows id id' f m last k shows of)) ∙ parts in
       let count : (j : ℕ) → sum_by (is_at pass_number j) items ≡ sum_by (is_at part_number j) m'.0 =
-          λ j. ap (λ (x : List (PassValue E F)). sum_by (is_at pass_number j) x) shown ∙ shown_sum id j m'.0 in
+      λ j. ap (λ (x : List (PassValue E F)). sum_by (is_at pass_number j) x) shown ∙ shown_sum id j m'.0 in
       let e = ends seat m'.0 words slots final
-          (idle (All-same IsIdle m.0 (k.part ∷ []) (ap (λ (x : Sat V E F). x.0) k.is) (All-cons IsIdle k.part [] k.idle (All-nil IsIdle))))
-          (λ j inside. subst (λ (x : ℕ). 0 < x) (count j) (all.each j (subst (λ (x : TokenValue). j < x.passes) t_is inside))) in
+      (idle (All-same IsIdle m.0 (k.part ∷ []) (ap (λ (x : Sat V E F). x.0) k.is) (All-cons IsIdle k.part [] k.idle (All-nil IsIdle))))
+      (λ j inside. subst (λ (x : ℕ). 0 < x) (count j) (all.each j (subst (λ (x : TokenValue). j < x.passes) t_is inside))) in
       record {
         value = e.value;
         there = e.there;

@@ -146,6 +146,7 @@ module _ {V E F : Type 0} (entries : V → ℕ → List E) (fixed : V → F) (n 
     where
       balances : (w o k : ℕ) → w % 2 ≡ 0 → o % 2 ≡ 0 → k ≤ 0 → 1 + w % 2 ≡ (o + 1) % 2 + k
       balances w o k e f l = omega arith
+
       not_both : (o : ℕ) → o % 2 ≡ 0 → (o + 1) % 2 ≡ 0 → ⊥
       not_both o e f = omega arith
 
@@ -156,6 +157,7 @@ module _ {V E F : Type 0} (entries : V → ℕ → List E) (fixed : V → F) (n 
       After : ℕ → Type 0
       After z = (w : List Part) × (a : Act (Option V)) × Rattle.atomic_table.specs.Table.Valid s.homes [] a × Rule (stepped s 0 z id [] w a)
           × claimed entries fixed (step slots 0 old (old + 1) none) (p ∷ [], []) (word s) (w, Rattle.atomic_table.specs.Table.carried_after [] a)
+
       hit : word s ≡ old → After (old + 1)
       hit is = let a = agrees_at s r id p at in (
         holding_part (word s) (old + 1) r.value p ∷ [],
@@ -164,6 +166,7 @@ module _ {V E F : Type 0} (entries : V → ℕ → List E) (fixed : V → F) (n 
         taken s r id p old at is even,
         ((λ _. (r.value, refl, All-cons (KnowsValue entries fixed r.value) p [] (a.same, a.own) (All-nil (KnowsValue entries fixed r.value)))), λ not. absurd (not is)),
       )
+
       miss : word s ≢ old → After (word s)
       miss not = let a = agrees_at s r id p at in (
         missed_part (word s) p ∷ [],
@@ -211,12 +214,16 @@ module _ {V E F : Type 0} (entries : V → ℕ → List E) (fixed : V → F) (n 
     where
       is_one : (w : ℕ) → 1 ≤ w % 2 → w % 2 ≡ 1
       is_one w m = omega arith
+
       none_is : {k : ℕ} → None ≡ Some k → ⊥
       none_is e = cc
+
       balances : (h w k : ℕ) → h % 2 ≡ 1 → w % 2 ≡ 1 → k ≡ 1 → 0 + w % 2 ≡ (h + 1) % 2 ^ 64 % 2 + k
       balances h w k e f g = omega arith
+
       at_most : (k : ℕ) → of_views (is_at part_number k) s.views ≤ 1
       at_most k = dite (dec_lt k n) (λ inside. omega (arith, r.once k inside)) (λ outside. omega (arith, r.none k (omega arith)))
+
       not_mine : (k : ℕ) → n ≤ k → k ≢ p.number
       not_mine k out_of is = let here : n ≤ p.number = omega arith in
           omega (arith, within (is_at part_number p.number) s.views id (p ∷ []) at, is_at-same part_number p, r.none p.number here)

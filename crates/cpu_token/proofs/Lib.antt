@@ -1,4 +1,6 @@
-pub mod Kept
-pub mod Steps
-pub mod Dealing
-pub mod Ends
+mod Kept
+mod Steps
+mod Dealing
+mod Ends
+pub mod AllPasses
+pub mod Sent

@@ -44,13 +44,13 @@ module _ {V E F : Type 0} (entries : V → ℕ → List E) (fixed : V → F) (n 
       → Allows (Rule entries fixed n start) slots id m 0 (λ x. either (eqb x old) (old + 1) x) (claimed entries fixed (step slots 0 old (old + 1) none) m)
   claims_at slots id f m old k even =
       subst (λ (x : Sat V E F). Allows (Rule entries fixed n start) slots id x 0 (λ y. either (eqb y old) (old + 1) y) (claimed entries fixed (step slots 0 old (old + 1) none) x)) (sym k.is)
-          (claims entries fixed n start slots id k.part old even)
+      (claims entries fixed n start slots id k.part old even)
 
   pub gives_at : (slots id : ℕ) (m : Sat V E F) (p : PassPart V E F) (h : ℕ) (out v : V) → m ≡ (p ∷ [], (0, Some v) ∷ []) → Changed entries fixed n start p h out v
       → Allows (Rule entries fixed n start) slots id m 0 (λ _. (h + 1) % 2 ^ 64) (gave entries fixed (step slots 0 ((h + 1) % 2 ^ 64) 0 none) m)
   gives_at slots id m p h out v is c =
       subst (λ (x : Sat V E F). Allows (Rule entries fixed n start) slots id x 0 (λ _. (h + 1) % 2 ^ 64) (gave entries fixed (step slots 0 ((h + 1) % 2 ^ 64) 0 none) x)) (sym is)
-          (gives_back entries fixed n start slots id p h out v c)
+      (gives_back entries fixed n start slots id p h out v c)
 
   -- what `give` asks of a hold's value, said of the fields
   pub changed_by : (id : TableId) (f : F) (h : ℕ) (v out : V) (m : Sat V E F) (whole : HoldValue V E F) (k : IsHold f h out m) → record { pass = pass_value id f m.0; value = v; out = out } ≡ whole
@@ -82,5 +82,5 @@ module _ {V E F : Type 0} (entries : V → ℕ → List E) where
       → pass_value id' f m''.0 ≡ given_pass (entries whole.value whole.pass.number) whole.pass
   given_shows id id' f h out v m m'' whole k same is e =
       ap (λ (x : TableId). pass_value x f m''.0) same ∙ ap (λ (x : Sat V E F). pass_value id f x.0) e
-          ∙ ap (λ (x : Sat V E F). given_pass (entries v (number_of x.0)) (pass_value id f x.0)) (sym k.is)
-          ∙ ap (λ (x : HoldValue V E F). given_pass (entries x.value x.pass.number) x.pass) is
+      ∙ ap (λ (x : Sat V E F). given_pass (entries v (number_of x.0)) (pass_value id f x.0)) (sym k.is)
+      ∙ ap (λ (x : HoldValue V E F). given_pass (entries x.value x.pass.number) x.pass) is

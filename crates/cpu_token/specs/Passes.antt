@@ -1,5 +1,5 @@
 -- What a contract sees of a token, a pass and a hold.
-use Rattle.std.specs.Prelude.{◌≡◌, ℕ, ◌+◌, ◌<◌, List, [], All, sum_by}
+use Rattle.std.specs.Prelude.{◌≡◌, ℕ, ◌+◌, ◌<◌, List, [], All, length, sum_by, take}
 use Rattle.atomic_table.specs.Seated.{TableId}
 use Rattle.shared_views.specs.Views.{is_at, made_from}
 
@@ -45,6 +45,10 @@ fresh_pass E id f k = record { token = id; number = k; fixed = f; entries = []; 
 -- the passes from 0 to n - 1
 abbrev pub fresh_passes : (E : Type 0) {F : Type 0} → TableId → F → ℕ → List (PassValue E F)
 fresh_passes E id f n = made_from (fresh_pass E id f) 0 n
+
+-- the first list begins with the second
+abbrev pub BeginsWith : {X : Type 0} → List X → List X → Type 0
+BeginsWith xs ys = take (length ys) xs ≡ ys
 
 module _ {E F : Type 0} where
   -- the number of a pass

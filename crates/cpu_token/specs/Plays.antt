@@ -22,7 +22,7 @@ module _ {V E F : Type 0} (entries : V → ℕ → List E) (fixed : V → F) whe
   abbrev pub claimed : Step (Option V) → Sat V E F → ℕ → Sat V E F → Type 0
   claimed st m r m' =
       (r ≡ st.first → (v : V) × (m' ≡ (map (holding_part r st.second v) m.0, (0, Some v) ∷ m.1)) × All (KnowsValue v) m.0)
-          × (r ≢ st.first → m' ≡ (map (missed_part r) m.0, m.1))
+      × (r ≢ st.first → m' ≡ (map (missed_part r) m.0, m.1))
 
   -- a swap puts the value home, and the part has the value's entries
   abbrev pub gave : Step (Option V) → Sat V E F → ℕ → Sat V E F → Type 0

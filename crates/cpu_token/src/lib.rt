@@ -1,13 +1,13 @@
-//! A token over one value, which passes hand round: whoever takes it alone works on the value, and then gives it back.
+//! A token over one value: the pass that takes it works on the value alone, and gives it back.
 #![tactic(auto)]
 
 mod part;
 mod pass;
 mod seats;
 mod stepped;
-mod token;
 #[cfg(test)]
 mod tests;
+mod token;
 
 pub use pass::{Hold, Pass};
 pub use stepped::Stepped;

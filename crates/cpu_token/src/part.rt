@@ -32,7 +32,10 @@ pub(crate) struct Key<V> {
 
 impl<V> Drop for Key<V> {
     fn drop(self) {
-        let Self { passes: _, start: _ } = self;
+        let Self {
+            passes: _,
+            start: _,
+        } = self;
     }
 }
 

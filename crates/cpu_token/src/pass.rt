@@ -17,7 +17,8 @@ impl<V: Stepped> Model for Pass<V> {
 
     ghost Value = { PassValue V.Entry V.Fixed };
 
-    ghost view = { λ a. pass_value a.seat.table_id (V.fixed a.start.value.start.value) a.seat.me.0 };
+    ghost view = { λ a. pass_value a.seat.table_id (V.fixed a.start.value.start.value)
+        a.seat.me.0 };
 
     ghost invariant = { λ a. IsPass (V.fixed a.start.value.start.value) a.seat.me };
 }
@@ -43,7 +44,8 @@ impl<V: Stepped> Model for Hold<V> {
       out = a.out.value;
     } };
 
-    ghost invariant = { λ a. IsHold (V.fixed a.start.value.start.value) a.word a.out.value a.seat.me };
+    ghost invariant = { λ a. IsHold (V.fixed a.start.value.start.value) a.word a.out.value
+        a.seat.me };
 }
 
 impl<V: Stepped> Hold<V> {
@@ -53,7 +55,8 @@ impl<V: Stepped> Hold<V> {
 
     /// The value, to be worked on. `give` says what may have changed of it.
     pub fn value(&mut self) -> &mut V
-        ensures* lends { sem 𝓛 (Lends (the_row V.row V.Entry.row V.Fixed.row V.Stepped) V.row self.entry result (λ w. record self.old { value = w })) }
+        ensures* lends { sem 𝓛 (Lends (the_row V.row V.Entry.row V.Fixed.row V.Stepped) V.row
+            self.entry result (λ w. record self.old { value = w })) }
         ensures is { result.now ≡ self.old.value }
     {
         &mut self.value

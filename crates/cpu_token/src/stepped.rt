@@ -4,6 +4,7 @@ ghost use Rattle.std.specs.Prelude.{ℕ, List};
 /// A value with a part that never changes, and with a list of entries for each number.
 pub trait Stepped {
     type Entry;
+
     type Fixed;
 
     // The entries of a number.

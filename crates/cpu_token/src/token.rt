@@ -11,7 +11,8 @@ use std::alloc::Global;
 use std::marker::Model;
 use std::snapshot::Snapshot;
 
-/// A value that passes hand round. Its word is even while the value is at home, and odd while a pass holds it.
+/// A value that passes hand round. Its word is even while the value is at home, and odd while a
+/// pass holds it.
 #[derive(Drop)]
 pub struct Token<V: Stepped> {
     table: TokenTable<V>,
@@ -23,9 +24,13 @@ impl<V: Stepped> Model for Token<V> {
 
     ghost Value = { TokenValue };
 
-    ghost view = { λ a. record { id = a.table.shared.table_id; passes = a.table.shared.key.passes } };
+    ghost view = { λ a. record {
+      id = a.table.shared.table_id;
+      passes = a.table.shared.key.passes;
+    } };
 
-    ghost invariant = { λ a. (a.table.shared.table_id.words ≡ 1) × (a.table.shared.table_id.slots ≡ 1) × (1 ≤ a.table.shared.key.passes) };
+    ghost invariant = { λ a. (a.table.shared.table_id.words ≡ 1)
+        × (a.table.shared.table_id.slots ≡ 1) × (1 ≤ a.table.shared.key.passes) };
 }
 
 /// What came of an attempt to take the value.
@@ -41,12 +46,12 @@ pub enum Tried<V: Stepped> {
 }
 
 impl<V: Stepped> Token<V> {
-    ghost use Rattle.std.specs.Prelude.{◌≡◌, ◌≢◌, ℕ, ◌<◌, ◌≤◌, List, [], ◌++◌, All, IfOk, IfErr};
-    ghost use Rattle.cpu_token.specs.Passes.{AreAll, fresh_passes, given_pass};
+    ghost use Rattle.std.specs.Prelude.{◌≡◌, ◌≢◌, ℕ, ◌≤◌, [], All, IfOk, IfErr};
+    ghost use Rattle.cpu_token.specs.Passes.{AreAll, BeginsWith, fresh_passes, given_pass};
     ghost use Rattle.cpu_token.specs.Told.{HasTried};
 
-    /// Makes a token over a value that no pass has worked on, and the passes from 0 on. Without memory the value comes
-    /// back.
+    /// Makes a token over a value without entries, and its passes in the order of their numbers,
+    /// which start at 0.
     pub fn new(
         alloc: Global,
         value: V,
@@ -55,8 +60,8 @@ impl<V: Stepped> Token<V> {
         requires some { 1 ≤ passes }
         requires fresh { (k : ℕ) → V.entries value k ≡ [] }
 
-        ensures passes { IfOk result (λ t. t.0.passes ≡ passes) }
-        ensures each { IfOk result (λ t. t.1.items ≡ fresh_passes V.Entry t.0.id (V.fixed value) passes) }
+        ensures ok { IfOk result (λ t. (t.0.passes ≡ passes)
+            × (t.1.items ≡ fresh_passes V.Entry t.0.id (V.fixed value) passes)) }
         ensures err { IfErr result (λ e. e.0 ≡ value) }
     {
         let key = Key {
@@ -83,7 +88,7 @@ impl<V: Stepped> Token<V> {
         }
     }
 
-    /// Takes the value for this pass, where the word is even and nobody takes it first. Waits for nothing.
+    /// Takes the value, where it is at home and no other pass takes it first.
     pub fn try_take(&self, pass: Pass<V>) -> Tried<V>
         requires of { pass.token ≡ self.now.id }
 
@@ -94,7 +99,11 @@ impl<V: Stepped> Token<V> {
         let seen = shared.load::<Look>(&mut seat, 0);
         if seen % 2 == 1 {
             let pass = Pass { seat, start };
-            return Tried::Busy { seen, found: seen, pass };
+            return Tried::Busy {
+                seen,
+                found: seen,
+                pass,
+            };
         }
         let word = seen + 1;
         let found = shared.compare_exchange::<Claim>(&mut seat, 0, seen, word);
@@ -114,12 +123,15 @@ impl<V: Stepped> Token<V> {
         })
     }
 
-    /// Puts the value back, and hands back the pass with the value's entries of its number.
+    /// Puts the value back, of which no more may have changed than that entries of the pass's
+    /// number came behind the others.
     pub fn give(&self, hold: Hold<V>) -> Pass<V>
         requires of { hold.pass.token ≡ self.now.id }
         requires fixed { V.fixed hold.value ≡ V.fixed hold.out }
-        requires others { (k : ℕ) → k ≢ hold.pass.number → V.entries hold.value k ≡ V.entries hold.out k }
-        requires grew { (more : List V.Entry) × (V.entries hold.value hold.pass.number ≡ V.entries hold.out hold.pass.number ++ more) }
+        requires others { (k : ℕ) → k ≢ hold.pass.number
+            → V.entries hold.value k ≡ V.entries hold.out k }
+        requires grew { BeginsWith (V.entries hold.value hold.pass.number)
+            (V.entries hold.out hold.pass.number) }
 
         ensures { result ≡ given_pass (V.entries hold.value hold.pass.number) hold.pass }
     {
@@ -137,7 +149,7 @@ impl<V: Stepped> Token<V> {
         Pass { seat, start }
     }
 
-    /// Takes all passes, and answers the value with what each of them did.
+    /// Ends the token, once all passes are back.
     pub fn close(self, mut passes: Vec<Pass<V>>) -> V
         requires all { AreAll self passes.items }
 
@@ -146,7 +158,9 @@ impl<V: Stepped> Token<V> {
         ensures none { (k : ℕ) → self.passes ≤ k → V.entries result k ≡ [] }
     {
         let Token { table } = self;
-        let Some(last) = passes.pop() else { unreachable!() };
+        let Some(last) = passes.pop() else {
+            unreachable!()
+        };
         let Pass { mut seat, start: _ } = last;
         gather(&table, &mut seat, passes);
         let mut closed = table.close_with(seat);
@@ -161,7 +175,9 @@ fn only_value<V>(mut slots: Vec<Option<V>>) -> V
     requires { (v : V) × (slots.items ≡ Some v ∷ []) }
     ensures { slots.items ≡ Some result ∷ [] }
 {
-    let Some(slot) = slots.pop() else { unreachable!() };
+    let Some(slot) = slots.pop() else {
+        unreachable!()
+    };
     slots.destroy_empty();
     let Some(value) = slot else { unreachable!() };
     value

@@ -10,13 +10,13 @@ not_none e = cc
 pub unreachable-requires-in_default-slot : goal.unreachable-requires-in_default-slot
 unreachable-requires-in_default-slot g c =
     let e = closes g.V.Stepped.entries g.V.Stepped.fixed _ _ c.args.self c.self.inside.table.shared.table_id _ _ _ c.gather.new.seat.me _ _ _ _ _ _ c.last.invariant c.self.view_is c.requires.all
-        c.in-Some.ensures.items c.last.view_is c.gather.ensures.parts c.gather.ensures.idle c.close_with-closed.ensures.values.2 in
+    c.in-Some.ensures.items c.last.view_is c.gather.ensures.parts c.gather.ensures.idle c.close_with-closed.ensures.values.2 in
     not_none (some-injective _ _ (sym e.there ∙ c.take-slot.ensures.value) ∙ c.in_default-slot.is)
 
 pub returns : goal.returns
 returns g c =
     let e = closes g.V.Stepped.entries g.V.Stepped.fixed _ _ c.args.self c.self.inside.table.shared.table_id _ _ _ c.gather.new.seat.me _ _ _ _ _ _ c.last.invariant c.self.view_is c.requires.all
-        c.in-Some.ensures.items c.last.view_is c.gather.ensures.parts c.gather.ensures.idle c.close_with-closed.ensures.values.2 in
+    c.in-Some.ensures.items c.last.view_is c.gather.ensures.parts c.gather.ensures.idle c.close_with-closed.ensures.values.2 in
     let is = some_is _ _ (some-injective _ _ (sym e.there ∙ c.take-slot.ensures.value) ∙ c.in-Some-slot.is) in
     record {
       fixed = subst (λ v. All (λ p. g.V.Stepped.fixed v ≡ p.fixed) c.args.passes.items) is e.same;

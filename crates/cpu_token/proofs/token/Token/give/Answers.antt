@@ -16,4 +16,4 @@ invariant_of-result g c = giving_keeps g.V.Stepped.entries _ _ _ _ _ _ c.hold.in
 pub returns : goal.returns
 returns g c =
     given_shows g.V.Stepped.entries _ _ _ _ _ _ _ _ c.args.hold c.hold.invariant (c.swap.ensures.0 ∙ c.exchange-slot.ensures.0) c.hold.view_is
-        (given_is g.V.Stepped.entries _ _ _ _ _ _ _ c.hold.invariant c.exchange-slot.ensures.3 c.swap.ensures.2)
+    (given_is g.V.Stepped.entries _ _ _ _ _ _ _ c.hold.invariant c.exchange-slot.ensures.3 c.swap.ensures.2)
