@@ -1,9 +1,9 @@
 -- For a caller that closes a token: when all its passes are there.
-use Rattle.std.proofs.Common.{◌≡◌, ℕ, ◌+◌, ◌<◌, List, [], ◌∷◌, All, sum_by, refl, ap, ◌∙◌, subst, sym, arith}
+use Rattle.std.proofs.Common.{◌≡◌, ℕ, ◌<◌, List, [], ◌∷◌, All, sum_by, refl, ap, ◌∙◌, subst, sym, arith}
 use Rattle.std.specs.List.{AllZip}
 use Rattle.std.proofs.lemmas.List.Elements.{All-cons, All-nil, All-head, All-tail}
 use Rattle.std.proofs.lemmas.List.Sums.{sum_by-cons}
-use Rattle.shared_views.specs.Views.{is_at, made_from}
+use Rattle.shared_views.specs.Views.{is_at}
 use Rattle.shared_views.proofs.Views.{made_once, made_every}
 use Rattle.cpu_token.specs.Passes.{TokenValue, PassValue, pass_number, fresh_pass, fresh_passes, AreAll}
 use Rattle.cpu_token.proofs.Ends.{all_of}

@@ -1,18 +1,16 @@
 -- What the cuts and joins of seats keep.
-use Rattle.std.proofs.Common.{◌≡◌, ℕ, zero, suc, pred, ◌+◌, ◌<◌, ◌≤◌, List, [], ◌∷◌, ◌++◌, map, take, drop, set, Option, Some, None, All, refl, ap, sym, ◌∙◌, subst, arith, append_assoc}
-use mathlib.Core.Option.{some}
-use lib.ListN.{get_elem?}
+use Rattle.std.proofs.Common.{◌≡◌, ℕ, zero, suc, ◌+◌, ◌<◌, ◌≤◌, List, [], ◌∷◌, ◌++◌, map, All, refl, ap, sym, ◌∙◌, subst, arith, append_assoc}
 use Rattle.std.proofs.lemmas.List.Elements.{All-same, All-cons}
 use Rattle.atomic_table.specs.Table.{Splits, Joins}
 use Rattle.atomic_table.specs.Seated.{TableId}
-use Rattle.shared_views.specs.Views.{of_views, Every, is_at, made_from}
+use Rattle.shared_views.specs.Views.{is_at, made_from}
 use Rattle.shared_views.proofs.Views.{split_sum, split_every, join_sum, join_every}
 use Rattle.cpu_token.specs.declared.part.PassPart.{PassPart}
 use Rattle.cpu_token.specs.Passes.{PassValue, fresh_pass}
 use Rattle.cpu_token.specs.Parts.{part_number, fresh_part, first_part, other_parts, shown_part, pass_value, IsIdle, IsPass}
-use Rattle.cpu_token.specs.TokenRule.{is_holder, Agrees, TokenRule}
+use Rattle.cpu_token.specs.TokenRule.{is_holder}
 use Rattle.cpu_token.specs.Plays.{Sat}
-use Rattle.cpu_token.proofs.Kept.{St, Rule}
+use Rattle.cpu_token.proofs.Kept.{Rule}
 
 module _ {V E F : Type 0} (entries : V → ℕ → List E) (fixed : V → F) (n : ℕ) (start : V) where
   pub cuts : (id : ℕ) (p : PassPart V E F) (ps : List (PassPart V E F)) → Splits (Rule entries fixed n start) id (p ∷ ps) ps (p ∷ [])

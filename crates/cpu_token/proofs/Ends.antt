@@ -1,5 +1,5 @@
 -- The rule when a token is made, and what it says when all passes are back.
-use Rattle.std.proofs.Common.{◌≡◌, ℕ, zero, suc, ◌+◌, ◌%◌, ◌<◌, ◌≤◌, ◌⊎◌, inl, inr, List, [], ◌∷◌, ◌++◌, map, length, get_or, Option, Some, None, All, sum_by, refl, ap, sym, ◌∙◌, subst, arith}
+use Rattle.std.proofs.Common.{◌≡◌, ℕ, zero, suc, ◌%◌, ◌<◌, ◌≤◌, inr, List, [], ◌∷◌, ◌++◌, map, get_or, Option, Some, None, All, sum_by, refl, ap, sym, ◌∙◌, subst, arith}
 use mathlib.Core.Option.{some, some-injective, some-ne-none}
 use mathlib.Core.Logic.{dite}
 use native.Mathlib.Decide.{dec_lt}
@@ -13,7 +13,7 @@ use Rattle.shared_views.proofs.Views.{made_once, made_outside, made_every, of_al
 use Rattle.cpu_token.specs.declared.part.PassPart.{PassPart}
 use Rattle.cpu_token.specs.Passes.{TokenValue, PassValue, pass_number, AreAll}
 use Rattle.cpu_token.specs.Parts.{part_number, fresh_part, fresh_parts, shown_part, pass_value, IsIdle, IsPass}
-use Rattle.cpu_token.specs.TokenRule.{is_holder, one_if_held, Agrees, TokenRule}
+use Rattle.cpu_token.specs.TokenRule.{is_holder, one_if_held, Agrees}
 use Rattle.cpu_token.specs.Plays.{Sat}
 use Rattle.cpu_token.proofs.Kept.{Rule}
 use Rattle.cpu_token.proofs.Dealing.{alone_shows}

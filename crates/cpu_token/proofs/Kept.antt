@@ -1,5 +1,5 @@
 -- Each step on the token's word keeps its rule.
-use Rattle.std.proofs.Common.{◌≡◌, ◌≢◌, ℕ, zero, suc, ◌+◌, ◌*◌, ◌^◌, ◌%◌, ◌<◌, ◌≤◌, List, [], ◌∷◌, ◌++◌, map, length, set, eqb, get_or, Option, Some, None, refl, ap, sym, ◌∙◌, subst, arith, length-set, get_or-set_same, rules}
+use Rattle.std.proofs.Common.{◌≡◌, ◌≢◌, ℕ, ◌+◌, ◌^◌, ◌%◌, ◌≤◌, List, [], ◌∷◌, length, set, eqb, get_or, Option, Some, None, refl, ap, sym, ◌∙◌, subst, arith, length-set, get_or-set_same}
 use mathlib.Core.Option.{some, none, some-injective}
 use mathlib.Core.Option as maybe
 use mathlib.Core.Logic.{dite}
@@ -8,7 +8,7 @@ use lib.ListN.{get_elem?}
 use Rattle.std.proofs.lemmas.List.Elements.{All-cons, All-nil}
 use prog.Atomic.{either}
 use Rattle.atomic_table.specs.Table.{State, Me, Step, step, Act, keeps, takes, gives, stepped, Allows, Splits, Joins}
-use Rattle.atomic_table.proofs.Lists.{set_here, set_again, exchanged}
+use Rattle.atomic_table.proofs.Lists.{set_here, exchanged}
 use Rattle.shared_views.specs.Views.{of_views, Every, is_at}
 use Rattle.shared_views.proofs.Views.{within, two_parts, swapped, counted, apart, turned, at_part, is_at-same}
 use Rattle.cpu_token.specs.declared.part.PassPart.{PassPart}

@@ -7,8 +7,8 @@ use Rattle.cpu_token.specs.declared.part.PassPart.{PassPart}
 use Rattle.cpu_token.specs.Parts.{looked_part, missed_part, holding_part, giving_part, IsPass, IsHold, pass_value, number_of}
 use Rattle.cpu_token.specs.Passes.{HoldValue, given_pass}
 use Rattle.atomic_table.specs.Seated.{TableId}
-use Rattle.cpu_token.specs.Plays.{Sat, looked, claimed, gave, KnowsValue}
-use Rattle.cpu_token.proofs.Kept.{Rule, Changed, looks, claims, gives_back, some_is, taken_is, some_or}
+use Rattle.cpu_token.specs.Plays.{Sat, looked, claimed, gave}
+use Rattle.cpu_token.proofs.Kept.{Rule, Changed, looks, claims, gives_back}
 
 module _ {V E F : Type 0} where
   abbrev pub looked_keeps : (f : F) (m m' : Sat V E F) (r : ℕ) → IsPass f m → m' ≡ (map (looked_part r) m.0, m.1) → IsPass f m'

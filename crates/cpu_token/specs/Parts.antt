@@ -1,9 +1,9 @@
 -- Inner: what a seat of the table knows. No public contract cites this.
-use Rattle.std.specs.Prelude.{◌≡◌, ℕ, ◌+◌, List, [], ◌∷◌, ◌++◌, take, drop, Option, Some, None}
+use Rattle.std.specs.Prelude.{◌≡◌, ℕ, ◌+◌, List, [], ◌∷◌, take, drop, Option, Some, None}
 use Rattle.atomic_table.specs.Table.{Me}
 use Rattle.atomic_table.specs.Seated.{TableId}
 use Rattle.shared_views.specs.Views.{made_from}
-use Rattle.cpu_token.specs.Passes.{PassValue, HoldValue}
+use Rattle.cpu_token.specs.Passes.{PassValue}
 use Rattle.cpu_token.specs.declared.part.PassPart.{PassPart}
 
 -- a part that has done nothing yet

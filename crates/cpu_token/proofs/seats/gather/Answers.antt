@@ -1,4 +1,4 @@
-use Rattle.std.proofs.Common.{rules, ◌≡◌, ◌++◌, ◌∷◌, [], map, All, Some, ◌∙◌, ap, sym, append_assoc}
+use Rattle.std.proofs.Common.{rules, ◌≡◌, ◌++◌, ◌∷◌, [], map, Some, ◌∙◌, ap, sym, append_assoc}
 use Rattle.std.proofs.lemmas.List.Elements.{All-pop}
 use Rattle.cpu_token.specs.Parts.{shown_part}
 use Rattle.cpu_token.proofs.Dealing.{joins, joined_shows, joined_idle}

@@ -1,4 +1,4 @@
-use Rattle.std.proofs.Common.{◌≡◌, ◌++◌, map, All, vec_len}
+use Rattle.std.proofs.Common.{◌≡◌, ◌++◌, map, All}
 use Rattle.cpu_token.specs.Parts.{shown_part, IsIdle}
 use Rattle.cpu_token.proofs.seats.gather.Given as goal
 

@@ -1,5 +1,4 @@
 use denote.Param.Send.{sendable}
-use Rattle.std.proofs.Common.{rules}
 use Rattle.cpu_token.proofs.Sent.{pass_sent}
 use Rattle.cpu_token.proofs.token.Token.TheSendSync as token
 use Rattle.cpu_token.proofs.tests.slate.Slate.TheSendSync as slate

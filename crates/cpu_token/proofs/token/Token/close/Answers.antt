@@ -1,4 +1,4 @@
-use Rattle.std.proofs.Common.{◌≡◌, ℕ, ◌≤◌, ◌∷◌, [], ◌++◌, All, Some, None, ap, sym, ◌∙◌, subst}
+use Rattle.std.proofs.Common.{◌≡◌, ◌≤◌, All, Some, None, ap, sym, ◌∙◌, subst}
 use mathlib.Core.Option.{some-injective}
 use Rattle.cpu_token.proofs.Kept.{some_is}
 use Rattle.cpu_token.proofs.Ends.{closes}

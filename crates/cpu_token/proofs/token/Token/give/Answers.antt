@@ -1,4 +1,4 @@
-use Rattle.std.proofs.Common.{rules, ◌≡◌, [], ◌∷◌, Some, None, ◌≢◌, ℕ, sym, ap, ◌∙◌, refl}
+use Rattle.std.proofs.Common.{rules, ◌∙◌}
 use Rattle.cpu_token.proofs.Steps.{exchanged_is, gives_at, changed_by, given_is, giving_keeps, given_shows}
 use Rattle.cpu_token.proofs.token.Token.give.Goals as goal
 

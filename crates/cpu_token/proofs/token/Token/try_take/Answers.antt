@@ -1,5 +1,5 @@
-use Rattle.std.proofs.Common.{rules, ◌≡◌, [], ◌∷◌, Some, ◌≢◌, ℕ, ◌<◌, ◌≤◌, List, ◌++◌, sym, subst, ap, ◌∙◌, arith, ◌%◌, ◌+◌, refl}
-use Rattle.cpu_token.specs.Parts.{looked_part, holding_part, IsPass, IsHold}
+use Rattle.std.proofs.Common.{rules, Some, sym, ap, ◌∙◌, arith, ◌+◌, refl}
+use Rattle.cpu_token.specs.Parts.{holding_part}
 use Rattle.cpu_token.proofs.Kept.{some_is}
 use Rattle.cpu_token.proofs.Steps.{looked_keeps, missed_keeps, has_slot, holding_is, exchanged_is, read_is, looks_at, claims_at}
 use Rattle.cpu_token.proofs.token.Token.try_take.Goals as goal
