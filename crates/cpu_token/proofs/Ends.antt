@@ -8,8 +8,8 @@ use Rattle.std.proofs.lemmas.List.Elements.{All-cons, All-nil, All-head, All-tai
 use Rattle.std.proofs.lemmas.List.Sums.{sum_by-cons}
 use Rattle.atomic_table.specs.Table.{opening, Final, Seen}
 use Rattle.atomic_table.specs.Seated.{TableId}
-use Rattle.shared_views.specs.Views.{of_views, Every, is_at, made_from}
-use Rattle.shared_views.proofs.Views.{made_once, made_outside, made_every, of_all}
+use Rattle.shared_views.specs.Views.{of_views, Every, is_at}
+use Rattle.shared_views.proofs.Views.{made_once, made_outside, made_every, made_zero, of_all}
 use Rattle.cpu_token.specs.declared.part.PassPart.{PassPart}
 use Rattle.cpu_token.specs.Passes.{TokenValue, PassValue, pass_number, AreAll}
 use Rattle.cpu_token.specs.Parts.{part_number, fresh_part, fresh_parts, shown_part, pass_value, IsIdle, IsPass}
@@ -19,10 +19,6 @@ use Rattle.cpu_token.proofs.Kept.{Rule}
 use Rattle.cpu_token.proofs.Dealing.{alone_shows}
 
 module _ {P : Type 0} where
-  made_zero : (g : P → ℕ) (f : ℕ → P) → ((k : ℕ) → g (f k) ≡ 0) → (n k : ℕ) → sum_by g (made_from f k n) ≡ 0
-  made_zero g f none zero k = refl
-  made_zero g f none (suc n) k = omega (arith, sum_by-cons g (f k) (made_from f (suc k) n), none k, made_zero g f none n (suc k))
-
   pub all_of : (Q : P → Type 0) (v : List P) → ((j : ℕ) (p : P) → get_elem? v j ≡ some p → Q p) → All Q v
   all_of Q [] each = All-nil Q
   all_of Q (x ∷ xs) each = All-cons Q x xs (each zero x refl) (all_of Q xs (λ j p e. each (suc j) p e))

@@ -35,9 +35,11 @@ module _ {V E F : Type 0} where
   abbrev pub giving_part : (ℕ → List E) → PassPart V E F → PassPart V E F
   giving_part es p = record p { entries = es p.number; held = None; out = None }
 
+  -- what goes to a new seat
   abbrev pub first_part : List (PassPart V E F) → List (PassPart V E F)
   first_part ps = take 1 ps
 
+  -- what stays with the old seat
   abbrev pub other_parts : List (PassPart V E F) → List (PassPart V E F)
   other_parts ps = drop 1 ps
 
@@ -45,26 +47,32 @@ module _ {V E F : Type 0} where
   abbrev pub shown_part : TableId → PassPart V E F → PassValue E F
   shown_part id p = record { token = id; number = p.number; fixed = p.fixed; entries = p.entries; loaded = p.loaded; loads = p.loads; fetched = p.fetched; fetches = p.fetches }
 
+  -- the number of the first part
   abbrev pub number_of : List (PassPart V E F) → ℕ
   number_of [] = 0
   number_of (p ∷ ps) = p.number
 
+  -- the entries of the first part
   abbrev pub entries_of : List (PassPart V E F) → List E
   entries_of [] = []
   entries_of (p ∷ ps) = p.entries
 
+  -- the word that the first part loaded last
   abbrev pub loaded_of : List (PassPart V E F) → ℕ
   loaded_of [] = 0
   loaded_of (p ∷ ps) = p.loaded
 
+  -- how often the first part loaded
   abbrev pub loads_of : List (PassPart V E F) → ℕ
   loads_of [] = 0
   loads_of (p ∷ ps) = p.loads
 
+  -- the word that the first part's last exchange found
   abbrev pub fetched_of : List (PassPart V E F) → ℕ
   fetched_of [] = 0
   fetched_of (p ∷ ps) = p.fetched
 
+  -- how often the first part tried an exchange
   abbrev pub fetches_of : List (PassPart V E F) → ℕ
   fetches_of [] = 0
   fetches_of (p ∷ ps) = p.fetches
