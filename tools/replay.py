@@ -1,0 +1,217 @@
+"""A log followed beside its input. Each line is compared with what it must be; a log of another board is refused."""
+from tools.entry import Wrong
+from tools.log_text import Access, Flush, Idle, Ring, Rotate, Start, Switch, Turn
+from tools.threads import Differs, ThreadState, must
+from tools.unit import Pair, Unit, plan
+
+
+class Call:
+    """A posted call: the items that posted, started, answered and collected it, as far as they came."""
+
+    def __init__(self, ticket, gateway, arguments, posted):
+        self.ticket = ticket
+        self.target = gateway.box
+        self.words = (gateway.function, *arguments)
+        self.posted = posted
+        self.started = None
+        self.answered = None
+        self.collected = None
+
+
+class Replay:
+    """The state of a run between two lines of its log."""
+
+    def __init__(self, firmware, log):
+        self.firmware = firmware
+        self.log = log
+        self.unit = Unit(firmware)
+        heap = firmware.board.heap
+        self.owners = [None] * (heap.count if heap else 0)
+        self.threads = {name: ThreadState(thread) for name, thread in firmware.threads.items()}
+        self.latched = set()
+        self.enabled = set()
+        self.calls = {}
+        self.access = None
+        if log.threads != list(firmware.threads):
+            raise Wrong(f"{log.name} is no log of {firmware.path}: its threads are others")
+
+    def __iter__(self):
+        """The items in order; the state is the one before the item."""
+        for item in self.log.items:
+            yield item
+            self.follow(item)
+        self.finish()
+
+    def refuse(self, number, why):
+        """Refuses the log at a line."""
+        raise Wrong(f"{self.log.name} is no log of {self.firmware.path}: at line {number}, {why}")
+
+    def follow(self, item):
+        """The state after the item."""
+        try:
+            FOLLOWED[type(item)](self, item)
+        except Differs as differs:
+            self.refuse(item.number, differs)
+
+    def finish(self):
+        """Compares the ends of the threads."""
+        for end in self.log.ends:
+            state = self.threads[end.thread]
+            held = (state.mode, state.steps, tuple(state.registers))
+            if held != (end.mode, end.steps, end.registers):
+                self.refuse(end.number, "the thread does not end so")
+        if self.access:
+            self.refuse(self.access.number, "no turn follows the access")
+
+    def home(self, item, thread):
+        """The state of an event's thread; its box must be the one that the unit is loaded for, unless it has ended."""
+        state = self.threads[thread]
+        must(state.ended or self.unit.box is state.thread.box, "the unit is not loaded for the box of the thread")
+        return state
+
+    def switch(self, item):
+        """A switch to another box."""
+        box = self.firmware.box_named(item.box)
+        must(box is not self.unit.box, "the unit is loaded for that box already")
+        self.unit.switch(box)
+
+    def rotate(self, item):
+        """A rotation into the circle's slot."""
+        must(self.unit.box is not None and item.slot == self.unit.circle, "the circle stands at another slot")
+        pair = Pair(item.rbar, item.rasr)
+        must(self.purpose(pair) is not None, "the pair is not in the plan of the box")
+        self.unit.rotate(item.slot, pair)
+
+    def purpose(self, pair):
+        """What a pair of the box's plan is for, or None."""
+        listed = plan(self.firmware, self.unit.box, self.owners)
+        return next((name for name, other in listed if other == pair), None)
+
+    def look(self, item):
+        """The unit's look at an access."""
+        must(self.unit.box is not None and self.access is None, "no access stands there")
+        must(self.unit.decided(item.address, item.kind) == item.slot, "the slots decide otherwise")
+        must(self.holds(item) == (item.slot is not None), "what the box holds says otherwise")
+        self.access = item
+
+    def holds(self, item):
+        """Whether the box holds the bytes for that kind of access."""
+        letter = {"read": "r", "write": "w", "fetch": "x"}[item.kind]
+        if any(letter in held.rights for held in self.unit.box.holding(item.address, item.size)):
+            return True
+        frame = self.frame(item.address)
+        return frame is not None and item.kind != "fetch" and self.owners[frame] == self.unit.box.index
+
+    def frame(self, address):
+        """The number of the page that holds an address, or None."""
+        heap = self.firmware.board.heap
+        return heap.number(address) if heap and heap.range.holds(address) else None
+
+    def turn(self, item):
+        """A turn."""
+        state = self.home(item, item.thread)
+        access, self.access = self.access, None
+        if item.reply.word == "irq":
+            must(item.reply.number in self.latched & self.enabled, "the line is not latched and enabled")
+        before = None if state.ended or state.waiting or item.reply.word == "irq" else state.instruction
+        registers = list(state.registers)
+        waited, served = state.waiting, state.serving
+        state.turn(item.reply, access)
+        if waited and state.waiting is None and item.reply.word == "ok":
+            self.collect(item, waited[0])
+        if item.reply.word == "irq":
+            self.latched.discard(item.reply.number)
+        elif before and item.reply.word in ("ok", "frames", "posted"):
+            self.done(item, state, before, registers, served)
+
+    def done(self, item, state, instruction, registers, served):
+        """What a kernel call that was done changes beyond its thread."""
+        word, operands = instruction.word, instruction.operands
+        if word == "pages_alloc":
+            self.take_pages(item.reply.numbers, state.thread.box.index)
+        elif word == "page_free":
+            self.free_page(registers[operands[0]], state.thread.box.index)
+        elif word in ("irq_on", "irq_off"):
+            must(operands[0] in state.thread.box.lines, "the line is not one of the box")
+            (self.enabled.add if word == "irq_on" else self.enabled.discard)(operands[0])
+        elif word in ("rpc_call", "rpc_sync"):
+            self.post(item, operands[1] if word == "rpc_call" else operands[0], registers[:4])
+        elif word == "rpc_return":
+            self.calls[served].answered = item
+        elif word == "rpc_result":
+            self.collect(item, registers[operands[1]])
+
+    def take_pages(self, frames, owner):
+        """Pages go to a box: the least free ones."""
+        free = [number for number, other in enumerate(self.owners) if other is None]
+        must(list(frames) == free[:len(frames)], "these are not the least free pages")
+        for frame in frames:
+            self.owners[frame] = owner
+
+    def free_page(self, address, owner):
+        """A page comes back."""
+        frame = self.frame(address)
+        at_start = frame is not None and self.firmware.board.heap.frame(frame).base == address
+        must(at_start and self.owners[frame] == owner, "that is no page of the box")
+        self.owners[frame] = None
+
+    def post(self, item, gateway, arguments):
+        """A call is posted."""
+        gateways = self.firmware.text.gateways
+        must(gateway < len(gateways), "there is no such gateway")
+        ticket = (item.thread, item.reply.number)
+        self.calls[ticket] = Call(ticket, gateways[gateway], arguments, item)
+
+    def collect(self, item, number):
+        """A call is collected by its caller."""
+        call = self.calls.get((item.thread, number))
+        must(call and call.answered and not call.collected, "that call is not to be collected")
+        call.collected = item
+
+    def start(self, item):
+        """A server starts a call."""
+        state = self.home(item, item.thread)
+        state.take(item)
+        if item.words is not None:
+            call = self.calls.get((item.caller, item.call))
+            must(call and call.started is None and call.target == state.thread.box.name, "that call is not to be started")
+            must(item.words == call.words, "the call was posted with other words")
+            state.registers[5] = self.threads[item.caller].thread.box.index
+            call.started = item
+
+    def idle(self, item):
+        """A server finds no call."""
+        self.home(item, item.thread).take(None)
+
+    def ring(self, item):
+        """A device rings a line."""
+        must(any(item.line in box.lines for box in self.firmware.boxes), "no box owns the line")
+        self.latched.add(item.line)
+
+    def flush(self, _):
+        """The slots of pages and grants are emptied."""
+        must(self.unit.box is not None, "nothing is loaded yet")
+        self.unit.flush()
+
+    def shown_owner(self, frame):
+        """Who owns a page, in words."""
+        owner = self.owners[frame]
+        return "free" if owner is None else f"owned by {self.firmware.boxes[owner].name}"
+
+
+FOLLOWED = {Switch: Replay.switch, Rotate: Replay.rotate, Access: Replay.look, Flush: Replay.flush, Turn: Replay.turn,
+            Start: Replay.start, Idle: Replay.idle, Ring: Replay.ring}
+
+
+def followed(firmware, log):
+    """The state at the end of a log, which is compared line by line."""
+    replay = Replay(firmware, log)
+    for _ in replay:
+        pass
+    return replay
+
+
+def place_of(step, path):
+    """Where an instruction stands, as editors jump to it."""
+    return f"{path}:{step.line}:{step.column}"
+
