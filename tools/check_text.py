@@ -8,7 +8,7 @@ from tools.ranges import Range
 from tools.refusals import read_refusal
 
 NAME = r"[a-z][a-z0-9_]{0,15}"
-NUMBER = r"(0|[1-9][0-9]*)"
+NUMBER = r"(0|[1-9][0-9]{0,9})"
 HEX = r"(0x[0-9A-F]{8})"
 BOX = re.compile(rf"box ({NAME})")
 ITEM = re.compile(rf"item (r|rw|rx|rwx) {HEX} {HEX}")

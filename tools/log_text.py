@@ -6,7 +6,7 @@ from tools.entry import Wrong
 from tools.refusals import read_refusal
 
 NAME = r"[a-z][a-z0-9_]{0,15}"
-NUMBER = r"(?:0|[1-9][0-9]*)"
+NUMBER = r"(?:0|[1-9][0-9]{0,9})"
 HEX = r"0x[0-9A-F]{8}"
 THREAD = rf"{NAME}\.{NUMBER}"
 REPLY = (rf"ended|ok|ok {HEX}|status {NUMBER}|posted {NUMBER}|waiting|irq {NUMBER}|frames(?: {NUMBER})+|"

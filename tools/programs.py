@@ -14,7 +14,7 @@ BOUNDS = {"W": (0, 0xFFFFFFFF), "N": (0, 65535), "M": (1, 65535)}
 KINDS = {"R": "a register, r0 to r7", "W": "a number from 0 to 4294967295", "N": "a number from 0 to 65535",
          "M": "a number from 1 to 65535"}
 MOST = 256
-NUMBER = re.compile(r"(?:0|[1-9][0-9]*|0x[0-9a-fA-F]{1,8})\Z", re.ASCII)
+NUMBER = re.compile(r"(?:0|[1-9][0-9]{0,9}|0x[0-9a-fA-F]{1,8})\Z", re.ASCII)
 REGISTER = re.compile(r"r[0-7]\Z")
 # What each memory instruction does, and how many bytes it reaches.
 ACCESSES = {"load8": ("read", 1), "load16": ("read", 2), "load32": ("read", 4), "store8": ("write", 1),

@@ -8,7 +8,10 @@ class Document:
     def __init__(self, text):
         self.text = text
         self.lines = Lines(text)
-        self.root = Headers(text).document()
+        try:
+            self.root = Headers(text).document()
+        except RecursionError:
+            raise BadText(0, "its values are nested too deeply for these tools") from None
 
     def place(self, offset):
         """The line and the column of an offset."""

@@ -15,6 +15,7 @@ LITERAL = re.compile(r"[^'\x00-\x08\x0a-\x1f\x7f]*")
 LITERAL_LINES = re.compile(r"(?:[^'\x00-\x08\x0b-\x1f\x7f]|\r\n)+")
 CONTINUED = re.compile(r"\\[ \t]*\r?\n(?:[ \t\n]|\r\n)*")
 ESCAPE = re.compile(r"\\(?:([btnfre\"\\])|x([0-9a-fA-F]{2})|u([0-9a-fA-F]{4})|U([0-9a-fA-F]{8}))")
+LONGEST = 200
 SHORT = {"b": "\b", "t": "\t", "n": "\n", "f": "\f", "r": "\r", "e": "\x1b", '"': '"', "\\": "\\"}
 SCALAR = re.compile(r"[0-9A-Za-z_+.:-]+")
 INTEGER = re.compile(r"(?:[+-]?(?:0|[1-9](?:_?[0-9])*)|0x[0-9a-fA-F](?:_?[0-9a-fA-F])*|0o[0-7](?:_?[0-7])*|0b[01](?:_?[01])*)\Z")
@@ -140,6 +141,8 @@ class Values:
 
     def integer(self, word, start):
         """The number that an integer's spelling stands for."""
+        if len(word) > LONGEST:
+            self.bad("a number is outside of 64 bits", start)
         number = int(word.replace("_", ""), 0) if word.startswith(("0x", "0o", "0b")) else int(word)
         if not -(1 << 63) <= number < 1 << 63:
             self.bad(f"'{word}' is outside of 64 bits", start)

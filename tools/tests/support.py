@@ -1,0 +1,41 @@
+"""What the tests share: entries as they are run, the examples, and whether the proved build is there."""
+import subprocess
+import unittest
+from pathlib import Path
+
+TOP = Path(__file__).resolve().parent.parent.parent
+DATA = Path("tools/tests/data")
+BUILD = TOP / "crates" / "uvisor" / "out" / "uvisor"
+WHY = "there is no proved build: 'rt run' in crates/uvisor makes it"
+
+needs_program = unittest.skipUnless(BUILD.exists(), WHY)
+
+
+def run_entry(name, *given, stdin=b""):
+    """The status, the text and what is said on standard error, without what scripts/uvisor says of its build."""
+    stdin = stdin.encode() if isinstance(stdin, str) else stdin
+    run = subprocess.run([f"scripts/{name}", *map(str, given)], cwd=TOP, input=stdin, capture_output=True, check=False)
+    said = [line for line in run.stderr.decode().splitlines() if not line.startswith(("uvisor: ", "stand-in: "))
+            and "it goes on" not in line]
+    return run.returncode, run.stdout.decode(), said
+
+
+def inputs():
+    """The accepted examples and the boards of these tests that have a log beside them."""
+    listed = [*TOP.glob("examples/*.toml"), *TOP.glob("examples/faults/*.toml"), *(TOP / DATA).glob("*.toml")]
+    return sorted(path.relative_to(TOP) for path in listed if path.with_suffix(".log").exists())
+
+
+def refused():
+    """The refused examples that have a line beside them."""
+    return sorted(path.relative_to(TOP) for path in TOP.glob("examples/refused/*.toml") if path.with_suffix(".line").exists())
+
+
+def text(path):
+    """The text of a file of the repository."""
+    return (TOP / path).read_text(encoding="utf-8")
+
+
+def log_of(path):
+    """The log beside an input."""
+    return path.with_suffix(".log")
