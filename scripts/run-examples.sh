@@ -1,8 +1,11 @@
 #!/usr/bin/env bash
 # Compares what the program and the outside tools print on the examples with the stored outputs, byte by byte.
 # Beside NAME.toml: NAME.log is the output of `script`, NAME.check that of `check`; in refused/, NAME.line is that of
-# `check`, and NAME.script-line that of `script` where `check` refuses nothing.
-# It runs the proved build where there is one, else an unproved build that it makes once for each command.
+# `check`, and NAME.script-line that of `script` where `check` refuses nothing. NAME.explain, NAME.counts, NAME.scheduled,
+# NAME.board-map, NAME.map.svg, NAME.run.svg and, in refused/, NAME.lint are those of the tools; NAME.map and NAME.who come
+# from NAME.check alone.
+# It runs the proved build where there is one, else an unproved build that it makes once for each command. Then the tools
+# that run the program themselves are passed over, since each call would make a build of its own.
 # Prints 'N of N as stored', and ends with 1 where something differs.
 set -u
 top=$(cd "$(dirname "$0")/.." && pwd) || exit 1
@@ -64,10 +67,11 @@ told() {
     fi
 }
 
-# tool STORED COMMAND..: compares what an outside tool prints; standard input goes to it
+# tool STORED COMMAND..: compares what an outside tool prints, where its output is stored; standard input goes to it
 tool() {
     local stored=$1
     shift
+    [ -f "$stored" ] || return 0
     all=$((all + 1))
     if "$@" 2>/dev/null | cmp -s - "$stored"; then
         same=$((same + 1))
@@ -76,6 +80,20 @@ tool() {
     fi
 }
 
+# tools NAME INPUT: compares what the tools print that run the program themselves
+tools() {
+    local name=$1 input=$2
+    [ -x "$proved" ] || { passed=$((passed + 1)); return 0; }
+    tool "$name.slots" scripts/slots-at "$input" "$name.log" "$(cat "$name.line-number" 2>/dev/null)"
+    tool "$name.explain" scripts/explain "$input" "$name.log"
+    tool "$name.board-map" scripts/memory-map "$input"
+    tool "$name.map.svg" scripts/memory-map "$input" --svg
+    tool "$name.run.svg" scripts/timeline "$name.log" "$input" --svg
+    tool "$name.scheduled" scripts/schedule "$input" --until-ended
+    tool "$name.lint" scripts/lint "$input"
+}
+
+passed=0
 [ -x "$proved" ] || echo "run-examples: this is an unproved build ('rt run' in crates/uvisor makes the proved one)" >&2
 inputs=(examples/*.toml examples/faults/*.toml)
 refused=(examples/refused/*.toml)
@@ -86,13 +104,16 @@ for input in "${inputs[@]}"; do
     [ -f "$name.log" ] && told "$name.log" 0 script "$input"
     [ -f "$name.check" ] && told "$name.check" 0 check "$input"
     [ -f "$name.map" ] && tool "$name.map" scripts/memory-map <"$name.check"
-    [ -f "$name.slots" ] && tool "$name.slots" scripts/slots-at "$input" "$name.log" "$(cat "$name.line-number")"
     [ -f "$name.who" ] && tool "$name.who" scripts/who-holds "$(cat "$name.address")" <"$name.check"
+    tool "$name.counts" scripts/counts "$name.log"
+    tools "$name" "$input"
 done
 for input in "${refused[@]}"; do
     name=${input%.toml}
     [ -f "$name.line" ] && told "$name.line" 1 check "$input"
     [ -f "$name.script-line" ] && told "$name.script-line" 1 script "$input"
+    tools "$name" "$input"
 done
+[ "$passed" -eq 0 ] || echo "run-examples: the tools that run the program were passed over on $passed inputs" >&2
 echo "$same of $all as stored"
 [ "$same" -eq "$all" ]
