@@ -94,6 +94,7 @@ tools() {
 }
 
 passed=0
+echo "run-examples: comparing the stored outputs, which takes some seconds" >&2
 [ -x "$proved" ] || echo "run-examples: this is an unproved build ('rt run' in crates/uvisor makes the proved one)" >&2
 inputs=(examples/*.toml examples/faults/*.toml)
 refused=(examples/refused/*.toml)

@@ -67,3 +67,9 @@ def run(parser, answer, given=None):
         # Whoever reads the answer has gone: nothing is left to say, not even at the end of the process.
         os.dup2(os.open(os.devnull, os.O_WRONLY), sys.stdout.fileno())
         return 2
+    except KeyboardInterrupt:
+        return 130
+    # A fault of the tool itself must not end with 1, which is an answer.
+    except Exception as failed:  # pylint: disable=broad-except
+        note(parser.prog, f"this tool failed, and gives no answer: {type(failed).__name__}: {' '.join(str(failed).split())}")
+        return 2

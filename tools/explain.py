@@ -6,7 +6,7 @@ from tools.firmware import firmware_of
 from tools.log_text import Access, End, Flush, Rotate, Switch, Turn, read_log
 from tools.numbers import hexadecimal, of
 from tools.replay import Replay, place_of
-from tools.unit import NEEDS, Pair
+from tools.unit import NEEDS, Pair, Unit
 
 NOTES = """LINE is the number of a line of LOG, from 1; without it each fault of the log is explained. The log is followed line
 by line beside the input, and one that is no log of it is refused. Nothing is said of memory's content."""
@@ -135,13 +135,14 @@ def answer(parsed):
 
 
 def after(replay, item):
-    """The lines on a switch or a flush, with the slots that it leaves. Following it again changes nothing."""
-    box = replay.unit.box
-    slots, circle = list(replay.unit.slots), replay.unit.circle
-    replay.follow(item)
-    lines = [sentences.said(item), *replay.unit.shown()]
-    replay.unit.box, replay.unit.slots, replay.unit.circle = box, slots, circle
-    return lines
+    """The lines on a switch or a flush, with the slots that it leaves. The state stays the one before it."""
+    unit = Unit(replay.firmware)
+    unit.box, unit.slots, unit.circle = replay.unit.box, list(replay.unit.slots), replay.unit.circle
+    if isinstance(item, Switch):
+        unit.switch(replay.firmware.box_named(item.box))
+    else:
+        unit.flush()
+    return [sentences.said(item), *unit.shown()]
 
 
 def main():

@@ -30,7 +30,9 @@ def read_text(path):
 
 
 def standard_input():
-    """The text on standard input."""
+    """The text on standard input. At a terminal it is said that it is waited for."""
+    if sys.stdin.isatty():
+        print("reading a text of 'check' from the terminal", file=sys.stderr, flush=True)
     try:
         return as_text(sys.stdin.buffer.read(), "standard input")
     except OSError as failed:

@@ -50,6 +50,11 @@ def placed(content, refusal):
     return document.place(cause.offset), cause.text
 
 
+def printable(text):
+    """A text in one line, whatever stands in the file."""
+    return "".join(letter if letter.isprintable() else ascii(letter)[1:-1] for letter in text)
+
+
 def answer(parsed):
     """The text and the status."""
     content = read_bytes(parsed.file)
@@ -58,7 +63,7 @@ def answer(parsed):
         return "", 0
     refusal = read_refusal(text)
     (line, column), cause = placed(content, refusal)
-    return f"{parsed.file}:{line}:{column}: {refusal.text}: {' '.join(cause.split())}\n", 1
+    return f"{parsed.file}:{line}:{column}: {refusal.text}: {printable(cause)}\n", 1
 
 
 def main():

@@ -5,6 +5,11 @@ from tools.threads import Differs, ThreadState, must
 from tools.unit import Pair, Unit, plan
 
 
+# The lines of the unit before an event, in their order, and the calls before which it empties slots.
+SWITCH, ROTATION, ACCESS, FLUSH = range(4)
+PAGE_CALLS = ("pages_alloc", "page_free")
+
+
 class Call:
     """A posted call: the items that posted, started, answered and collected it, as far as they came."""
 
@@ -32,6 +37,8 @@ class Replay:
         self.enabled = set()
         self.calls = {}
         self.access = None
+        self.rotated = None
+        self.pending = []
         if log.threads != list(firmware.threads):
             raise Wrong(f"{log.name} is no log of {firmware.path}: its threads are others")
 
@@ -60,26 +67,43 @@ class Replay:
             held = (state.mode, state.steps, tuple(state.registers))
             if held != (end.mode, end.steps, end.registers):
                 self.refuse(end.number, "the thread does not end so")
-        if self.access:
-            self.refuse(self.access.number, "no turn follows the access")
+        if self.pending:
+            self.refuse(self.log.items[-1].number, "no event follows the lines of the unit")
 
-    def home(self, item, thread):
-        """The state of an event's thread; its box must be the one that the unit is loaded for, unless it has ended."""
+    def home(self, thread):
+        """The state of an event's thread. Its box is the one that the unit is loaded for, unless it has ended."""
         state = self.threads[thread]
-        must(state.ended or self.unit.box is state.thread.box, "the unit is not loaded for the box of the thread")
+        if state.ended:
+            must(not self.pending, "an ended thread has no lines of the unit before it")
+        else:
+            must(self.unit.box is state.thread.box, "the unit is not loaded for the box of the thread")
         return state
+
+    def event(self, flushes):
+        """The lines of the unit before an event have been used: none is left over."""
+        must(self.rotated is None, "a rotation stands before an event without an access")
+        must((FLUSH in self.pending) == flushes, "slots are emptied where pages come or go, and only there")
+        self.pending = []
+
+    def seen(self, kind):
+        """One more line of the unit before the next event: each kind once, in its order."""
+        must(not self.pending or self.pending[-1] < kind, "the lines of the unit before an event are out of order")
+        self.pending.append(kind)
 
     def switch(self, item):
         """A switch to another box."""
+        self.seen(SWITCH)
         box = self.firmware.box_named(item.box)
         must(box is not self.unit.box, "the unit is loaded for that box already")
         self.unit.switch(box)
 
     def rotate(self, item):
-        """A rotation into the circle's slot."""
+        """A rotation into the circle's slot. Whether it was due is known at the access."""
+        self.seen(ROTATION)
         must(self.unit.box is not None and item.slot == self.unit.circle, "the circle stands at another slot")
         pair = Pair(item.rbar, item.rasr)
         must(self.purpose(pair) is not None, "the pair is not in the plan of the box")
+        self.rotated = (pair, list(self.unit.slots))
         self.unit.rotate(item.slot, pair)
 
     def purpose(self, pair):
@@ -87,12 +111,24 @@ class Replay:
         listed = plan(self.firmware, self.unit.box, self.owners)
         return next((name for name, other in listed if other == pair), None)
 
+    def due(self, item):
+        """The pair that must rotate in for an access with these slots, or None."""
+        if self.unit.decided(item.address, item.kind) is not None:
+            return None
+        pairs = (pair for _, pair in plan(self.firmware, self.unit.box, self.owners))
+        return next((pair for pair in pairs if pair.serves(item.address, item.kind)), None)
+
     def look(self, item):
         """The unit's look at an access."""
-        must(self.unit.box is not None and self.access is None, "no access stands there")
+        self.seen(ACCESS)
+        must(self.unit.box is not None, "nothing is loaded yet")
+        loaded, slots = self.rotated or (None, self.unit.slots)
+        after, self.unit.slots = self.unit.slots, slots
+        due, self.unit.slots = self.due(item), after
+        must(due == loaded, "another region, or none, is due to rotate in")
         must(self.unit.decided(item.address, item.kind) == item.slot, "the slots decide otherwise")
         must(self.holds(item) == (item.slot is not None), "what the box holds says otherwise")
-        self.access = item
+        self.access, self.rotated = item, None
 
     def holds(self, item):
         """Whether the box holds the bytes for that kind of access."""
@@ -109,11 +145,12 @@ class Replay:
 
     def turn(self, item):
         """A turn."""
-        state = self.home(item, item.thread)
+        state = self.home(item.thread)
         access, self.access = self.access, None
         if item.reply.word == "irq":
             must(item.reply.number in self.latched & self.enabled, "the line is not latched and enabled")
         before = None if state.ended or state.waiting or item.reply.word == "irq" else state.instruction
+        self.event(before is not None and before.word in PAGE_CALLS and item.reply.word in ("ok", "frames"))
         registers = list(state.registers)
         waited, served = state.waiting, state.serving
         state.turn(item.reply, access)
@@ -170,7 +207,9 @@ class Replay:
 
     def start(self, item):
         """A server starts a call."""
-        state = self.home(item, item.thread)
+        state = self.home(item.thread)
+        must(self.access is None, "a start makes no access")
+        self.event(False)
         state.take(item)
         if item.words is not None:
             call = self.calls.get((item.caller, item.call))
@@ -181,15 +220,20 @@ class Replay:
 
     def idle(self, item):
         """A server finds no call."""
-        self.home(item, item.thread).take(None)
+        state = self.home(item.thread)
+        must(self.access is None, "an idle look makes no access")
+        self.event(False)
+        state.take(None)
 
     def ring(self, item):
         """A device rings a line."""
+        must(not self.pending, "a ring has no lines of the unit before it")
         must(any(item.line in box.lines for box in self.firmware.boxes), "no box owns the line")
         self.latched.add(item.line)
 
     def flush(self, _):
         """The slots of pages and grants are emptied."""
+        self.seen(FLUSH)
         must(self.unit.box is not None, "nothing is loaded yet")
         self.unit.flush()
 

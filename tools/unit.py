@@ -2,7 +2,6 @@
 from dataclasses import dataclass
 
 from tools import placing
-from tools.entry import Wrong
 from tools.numbers import hexadecimal
 from tools.ranges import Range
 
@@ -51,6 +50,10 @@ class Pair:
         if self.range.length < SMALLEST_SPLIT:
             return True
         return (address - self.rbar) // (self.range.length // SUBREGIONS) not in self.without
+
+    def serves(self, address, kind):
+        """Whether the region, taken alone, grants an access."""
+        return self.matches(address) and NEEDS[kind] in self.rights
 
     def shown(self):
         """The region in words."""
@@ -126,10 +129,3 @@ def plan(firmware, box, owners):
     for grant in box.grants:
         pairs += [(f"grant {grant.index}", pair(block, grant.rights)) for block in placing.cover(grant.range)]
     return pairs + group_pairs(firmware.board.heap, owners, box.index)
-
-
-def rights_of(loaded):
-    """The rights of an enabled pair whose attributes this unit may have, else a refusal."""
-    if not loaded.enabled or loaded.rasr & ~0x1700FF3F:
-        raise Wrong(f"{hexadecimal(loaded.rasr)} is no attribute and size register of an enabled region")
-    return loaded.rights
