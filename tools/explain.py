@@ -26,7 +26,8 @@ def address_line(state):
     kind, size, address = state.named_access()
     base, offset = state.instruction.operands[-2:]
     held = hexadecimal(state.registers[base])
-    return f"the address {hexadecimal(address)} is r{base} {held} plus {hexadecimal(offset)}; it is a {kind} of {of(size, 'byte')}"
+    made = f"the address {hexadecimal(address)} is r{base} {held} plus {hexadecimal(offset)}"
+    return f"{made}; it is a {kind} of {of(size, 'byte')}"
 
 
 def deciding(unit, address, kind):

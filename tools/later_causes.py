@@ -57,8 +57,8 @@ class Later:
         limit = self.text.board.limit
         return Cause(self.node("box", self.box(), "size").start,
                      f"'size' asks for {said_hex(own)}, which would end past {hexadecimal(limit)}, where "
-                     f"{'the heap begins' if self.text.board.heap else 'SRAM ends'}: make a box smaller, SRAM larger, or place larger "
-                     "boxes first")
+                     f"{'the heap begins' if self.text.board.heap else 'SRAM ends'}: make a box smaller, SRAM larger, "
+                     "or place larger boxes first")
 
     def bad_grant(self):
         """A grant whose rounding rule fails."""
@@ -94,10 +94,10 @@ class Later:
                 shared = self.text.boxes[second].grants[number].shared and self.text.boxes[first].grants[other].shared
                 if whole and earlier and whole.overlaps(earlier) and not shared:
                     there = self.line(self.node("box", first, "grant", other).start)
+                    ours = f"grant {number} of box '{self.names()[second]}' give {said_hex(whole)}"
+                    theirs = f"grant {other} of box '{self.names()[first]}', {said_hex(earlier)} (line {there})"
                     return Cause(self.node("box", second, "grant", number, "base").start,
-                                 f"'base' and 'len' of grant {number} of box '{self.names()[second]}' give {said_hex(whole)}, which overlaps "
-                                 f"grant {other} of box '{self.names()[first]}', {said_hex(earlier)} (line {there}): mark both "
-                                 "'shared = true', or move one")
+                                 f"'base' and 'len' of {ours}, which overlaps {theirs}: mark both 'shared = true', or move one")
         raise Unplaced
 
     def line_taken(self):
@@ -123,7 +123,8 @@ class Later:
                              f"{hexadecimal(at)}: write such an address")
         for name in self.node(kind, number, key).value:
             if name.value not in self.names():
-                return Cause(name.start, f"'{key}' names {source(self.document, name)}, and no box has that name: write the name of a box")
+                named = source(self.document, name)
+                return Cause(name.start, f"'{key}' names {named}, and no box has that name: write the name of a box")
         raise Unplaced
 
     def no_server(self):
@@ -151,7 +152,8 @@ class Later:
         owned = {line for box in self.text.boxes for line, _ in box.lines}
         for ring in self.node("device", self.refusal.number("device"), "rings").value:
             if ring.value not in owned:
-                return Cause(ring.start, f"'rings' has {ring.value}, and no box has that line: add an 'irq' to a box, or drop the ring")
+                return Cause(ring.start, f"'rings' has {ring.value}, and no box has that line: add an 'irq' to a box, "
+                                         "or drop the ring")
         raise Unplaced
 
     def bad_script(self):

@@ -7,8 +7,8 @@ from tools.log_text import read_log
 from tools.numbers import of
 from tools.sentences import boxes_of, said
 
-NOTES = """The status is 0 where the logs are the same, and 1 where they differ. A box's replies are its turns, starts and idles in
-their order, without the lines of the unit: boxes whose replies are the same may have run in another order."""
+NOTES = """The status is 0 where the logs are the same, and 1 where they differ. A box's replies are its turns, starts and
+idles in their order, without the lines of the unit: boxes whose replies are the same may have run in another order."""
 
 
 def first_difference(first, second):
@@ -37,8 +37,9 @@ def box_lines(first, second, box):
             return [f"box {box}: reply {place} differs", *told(first, a), *told(second, b)]
     if len(ours) == len(theirs):
         return [f"box {box}: {of(len(ours), 'reply', 'replies')}, the same in both"]
-    return [f"box {box}: the first {of(min(len(ours), len(theirs)), 'reply is', 'replies are')} the same, and then "
-            f"{first.name} has {len(ours) - min(len(ours), len(theirs))} more, {second.name} {len(theirs) - min(len(ours), len(theirs))} more"]
+    same = min(len(ours), len(theirs))
+    more = f"{first.name} has {len(ours) - same} more, {second.name} {len(theirs) - same} more"
+    return [f"box {box}: the first {of(same, 'reply is', 'replies are')} the same, and then {more}"]
 
 
 def answer(parsed):

@@ -88,7 +88,8 @@ def picture(boxes, segments, named, below):
     head = [svg.text(LEFT, 28, "Memory: what each box may do", 16, fill=INK),
             svg.text(LEFT, 46, "addresses from high to low; heights are not to scale", 11, fill=FAINT)]
     for number, box in enumerate(boxes):
-        head.append(svg.text(LEFT + number * (COLUMN + SPACE) + COLUMN / 2, TOP - 8, box.name, 13,
+        size = 13 if len(box.name) <= 14 else 11
+        head.append(svg.text(LEFT + number * (COLUMN + SPACE) + COLUMN / 2, TOP - 8, box.name, size,
                              text_anchor="middle", fill=INK, font_weight="bold"))
     drawn, end = rows(boxes, segments, named)
     notes, bottom = legend(end + 16, named, any(segment.pages for segment in segments), below)

@@ -12,8 +12,8 @@ from tools.ranges import Range
 NOTES = """With FILE, the input, the parts of the board are named; without it the text of 'check' is read from standard input,
 which does not name them. Who owns a page of the heap changes while the firmware runs, and register gateways write for a
 box what it does not hold: with FILE both are told, and with a text of 'check' they are not known."""
-WIDTH = 15
-PART = 24
+NARROWEST = 15
+PART = 31
 
 
 @dataclass(frozen=True)
@@ -46,12 +46,12 @@ def segments(boxes, parts=()):
     return listed
 
 
-def row(cells):
-    """The cells of a line after the first three columns."""
-    return "".join(f" {cell:<{WIDTH}}" for cell in cells)
+def row(cells, wide):
+    """The cells of a line after the first columns."""
+    return "".join(f" {cell:<{wide}}" for cell in cells)
 
 
-def line(segment, named):
+def line(segment, named, wide):
     """The line of a segment."""
     text = f"{hexadecimal(segment.range.base)} {hexadecimal(segment.range.end - 1)} {segment.range.length:10}"
     if named:
@@ -60,13 +60,15 @@ def line(segment, named):
         return (text.rstrip() + " (gap)")
     if segment.pages:
         return text + " (pages)"
-    return (text + row(item.rights if item else "-" for item in segment.items)).rstrip()
+    return (text + row((item.rights if item else "-" for item in segment.items), wide)).rstrip()
 
 
 def table(boxes, parts=()):
     """The map as text."""
-    head = f"{'from':<10} {'to':<10} {'bytes':>10}" + (f" {'part':<{PART}}" if parts else "") + row(box.name for box in boxes)
-    lines = [head.rstrip()] + [line(segment, bool(parts)) for segment in segments(boxes, parts)]
+    wide = max(NARROWEST, *(len(box.name) for box in boxes))
+    head = f"{'from':<10} {'to':<10} {'bytes':>10}" + (f" {'part':<{PART}}" if parts else "")
+    head += row((box.name for box in boxes), wide)
+    lines = [head.rstrip()] + [line(segment, bool(parts), wide) for segment in segments(boxes, parts)]
     return "\n".join(lines) + "\n"
 
 

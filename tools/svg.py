@@ -36,7 +36,8 @@ def titled(element, title):
 
 def whole(width, height, title, pieces, definitions=""):
     """A picture that stands alone."""
-    head = f"<svg xmlns='http://www.w3.org/2000/svg' width='{width:g}' height='{height:g}' viewBox='0 0 {width:g} {height:g}' {FONT}>"
+    size = f"width='{width:g}' height='{height:g}' viewBox='0 0 {width:g} {height:g}'"
+    head = f"<svg xmlns='http://www.w3.org/2000/svg' {size} {FONT}>"
     body = "\n".join([head, f"<title>{escape(title)}</title>", definitions,
                       rectangle(0, 0, width, height, fill="#ffffff"), *pieces, "</svg>"])
     return body + "\n"

@@ -9,8 +9,8 @@ from tools.log_text import Access, Flush, Ring, Rotate, Start, Switch, read_log
 from tools.replay import followed
 
 MOST = 400
-NOTES = f"""A picture has at most {MOST} events; --lines chooses those of some lines of the log. A log alone shows which call a start
-is of. Which turn answers a call and which collects the answer is known with FILE, the input, alone."""
+NOTES = f"""A picture has at most {MOST} events; --lines chooses those of some lines of the log. A log alone shows which call a
+start is of. Which turn answers a call and which collects the answer is known with FILE, the input, alone."""
 
 
 @dataclass
@@ -96,7 +96,7 @@ def chosen(events, first, last):
     if not picked:
         raise Wrong(f"the lines {first} to {last} have no event")
     if len(picked) > MOST:
-        raise Wrong(f"{len(picked)} events are too many for a picture, which has at most {MOST}: choose lines by --lines, as 1-{MOST}")
+        raise Wrong(f"{len(picked)} events are too many for a picture, which has at most {MOST}: choose by --lines, as 1-{MOST}")
     return picked
 
 

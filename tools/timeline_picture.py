@@ -1,13 +1,13 @@
 """A run as a picture: a lane for each box, with a row for each of its threads, and a column for each event."""
 from tools import svg
-from tools.log_text import Idle, Ring, Start, box_of
+from tools.log_text import Idle, Reply, Ring, Start, box_of
 from tools.sentences import said
 
 INK, FAINT, LANE, LOADED = "#222222", "#888888", "#f4f4f4", "#d9e8f8"
 FAULT, IRQ, CALL, ANSWER, STATUS, ROTATE = "#c62828", "#1565c0", "#7b1fa2", "#00796b", "#ef6c00", "#8d6e63"
-LEFT, TOP, COLUMN, ROW, SPACE = 130, 70, 24, 26, 12
-HEADS = "".join(f"<marker id='{kind}' viewBox='0 0 8 8' refX='7' refY='4' markerWidth='7' markerHeight='7' orient='auto'>"
-                f"<path d='M 0 0 L 8 4 L 0 8 z' fill='{color}'/></marker>" for kind, color in (("call", CALL), ("answer", ANSWER)))
+LEFT, TOP, COLUMN, ROW, SPACE = 150, 70, 24, 26, 12
+HEADS = "".join(f"<marker id='{kind}' viewBox='0 0 8 8' refX='7' refY='4' markerWidth='7' markerHeight='7' "
+                f"orient='auto'><path d='M 0 0 L 8 4 L 0 8 z' fill='{color}'/></marker>" for kind, color in (("call", CALL), ("answer", ANSWER)))
 
 
 class Layout:
@@ -80,10 +80,11 @@ def loaded(layout, box):
 def mark(entry, x, y):
     """The mark of an entry."""
     if isinstance(entry, Ring):
-        drawn = svg.path(f"M {x - 6:g} {y + 6:g} L {x + 6:g} {y + 6:g} L {x:g} {y - 6:g} z", fill="none", stroke=IRQ, stroke_width=1.5)
+        corners = f"M {x - 6:g} {y + 6:g} L {x + 6:g} {y + 6:g} L {x:g} {y - 6:g} z"
+        drawn = svg.path(corners, fill="none", stroke=IRQ, stroke_width=1.5)
         return drawn + svg.text(x, y - 9, str(entry.line), 10, text_anchor="middle", fill=IRQ)
     if isinstance(entry, Idle) or (isinstance(entry, Start) and entry.words is None):
-        return ring(x, y, STATUS) + svg.text(x, y - 8, "2" if isinstance(entry, Idle) else "12", 10, text_anchor="middle", fill=STATUS)
+        return status_mark(2 if isinstance(entry, Idle) else 12, x, y)
     if isinstance(entry, Start):
         return dot(x, y, CALL, 5.5)
     return turn_mark(entry.reply, x, y)
@@ -99,6 +100,11 @@ def ring(x, y, color):
     return f"<circle cx='{x:g}' cy='{y:g}' r='4.5' fill='#ffffff' stroke='{color}' stroke-width='1.5'/>"
 
 
+def status_mark(number, x, y):
+    """A status with its number."""
+    return ring(x, y, STATUS) + svg.text(x, y - 8, str(number), 10, text_anchor="middle", fill=STATUS)
+
+
 def turn_mark(reply, x, y):
     """The mark of a turn, by its reply."""
     if reply.word == "fault":
@@ -106,7 +112,7 @@ def turn_mark(reply, x, y):
     if reply.word == "irq":
         return svg.path(f"M {x - 6:g} {y - 6:g} L {x + 6:g} {y - 6:g} L {x:g} {y + 6:g} z", fill=IRQ)
     if reply.word == "status":
-        return ring(x, y, STATUS) + svg.text(x, y - 8, str(reply.number), 10, text_anchor="middle", fill=STATUS)
+        return status_mark(reply.number, x, y)
     if reply.word == "halted":
         return svg.rectangle(x - 5, y - 5, 10, 10, fill=INK)
     if reply.word in ("ended", "waiting"):
@@ -123,7 +129,8 @@ def marks(layout):
         for place, slot in enumerate(event.rotations):
             top = y - 12 - 9 * place
             diamond = svg.path(f"M {x:g} {top - 4:g} l 4 4 l -4 4 l -4 -4 z", fill=ROTATE)
-            pieces.append(svg.titled(diamond + svg.text(x + 5, top + 3, str(slot), 9, fill=ROTATE), f"rotation into slot {slot}"))
+            label = svg.text(x + 5, top + 3, str(slot), 9, fill=ROTATE)
+            pieces.append(svg.titled(diamond + label, f"rotation into slot {slot}"))
         if event.flush:
             pieces.append(svg.titled(svg.rectangle(x - 5, y - 12, 10, 3, fill=ROTATE), "flush of slots 2 to 6"))
     return pieces
@@ -157,17 +164,22 @@ def axis(layout):
     return pieces
 
 
+def sample(kind, color, x, y):
+    """A short arrow."""
+    return svg.line(x - 8, y, x + 8, y, stroke=color, stroke_width=1.6, marker_end=f"url(#{kind})")
+
+
 LEGEND = [
     (lambda x, y: dot(x, y, INK), "turn"), (lambda x, y: svg.rectangle(x - 5, y - 5, 10, 10, fill=INK), "halts"),
     (lambda x, y: ring(x, y, FAINT), "waits, or has ended"), (lambda x, y: ring(x, y, STATUS), "status"),
-    (lambda x, y: svg.path(f"M {x - 5:g} {y - 5:g} l 10 10 m 0 -10 l -10 10", stroke=FAULT, stroke_width=3, fill="none"), "fault"),
-    (lambda x, y: svg.path(f"M {x - 6:g} {y - 5:g} L {x + 6:g} {y - 5:g} L {x:g} {y + 6:g} z", fill=IRQ), "interrupt"),
+    (lambda x, y: turn_mark(Reply("fault"), x, y), "fault"),
+    (lambda x, y: turn_mark(Reply("irq"), x, y), "interrupt"),
     (lambda x, y: svg.line(x, y - 7, x, y + 7, stroke=IRQ, stroke_width=3), "switch"),
     (lambda x, y: svg.path(f"M {x:g} {y - 5:g} l 5 5 l -5 5 l -5 -5 z", fill=ROTATE), "rotation, with its slot"),
     (lambda x, y: svg.rectangle(x - 5, y - 2, 10, 3, fill=ROTATE), "flush"),
     (lambda x, y: dot(x, y, CALL), "posts or starts a call"),
-    (lambda x, y: svg.line(x - 8, y, x + 8, y, stroke=CALL, stroke_width=1.6, marker_end="url(#call)"), "call to its start"),
-    (lambda x, y: svg.line(x - 8, y, x + 8, y, stroke=ANSWER, stroke_width=1.6, marker_end="url(#answer)"), "answer to its caller"),
+    (lambda x, y: sample("call", CALL, x, y), "call to its start"),
+    (lambda x, y: sample("answer", ANSWER, x, y), "answer to its caller"),
 ]
 
 

@@ -69,8 +69,10 @@ def spelled(board, spelling, chance):
         dotted = "".join(f"board.{key} = {value(inner, chance)}\n" for key, inner in board["board"].items())
         return pairs(top, chance) + dotted + pairs({"box": board["box"]}, chance)
     if spelling == "headers":
-        return pairs(top, chance) + "[board]\n" + pairs(board["board"], chance) + "".join(box_headers(box, chance) for box in board["box"])
-    return "board = " + value(board["board"], chance) + "\n" + pairs(top, chance) + "".join(box_headers(box, chance) for box in board["box"])
+        head = pairs(top, chance) + "[board]\n" + pairs(board["board"], chance)
+    else:
+        head = "board = " + value(board["board"], chance) + "\n" + pairs(top, chance)
+    return head + "".join(box_headers(box, chance) for box in board["box"])
 
 
 def power_up(size):
@@ -97,7 +99,8 @@ def grants_of(chance, block, common):
         how = chance.choice(["none", "up", "down"])
         length = chance.choice([32, 64, 96, 224, 256, 4096])
         base = (base + 4095) // 4096 * 4096
-        grant = {"base": base + (32 if how == "none" and length < 4096 else 0), "len": length + (0 if how == "none" else chance.randrange(16)),
+        grant = {"base": base + (32 if how == "none" and length < 4096 else 0),
+                 "len": length + (0 if how == "none" else chance.randrange(16)),
                  "rights": chance.choice(["r", "rw", "rx", "rwx"])}
         if how != "none" or chance.random() < 0.3:
             grant["round"] = how
@@ -141,7 +144,8 @@ def board_of(seed):
     for place, size in enumerate(sizes):
         grants = grants_of(chance, 0x40000000 + place * 0x20000, common)
         reach = edges + [grant["base"] for grant in grants] + [grant["base"] + grant["len"] for grant in grants]
-        threads = [{"program": program_of(chance, reach, False), "steps": chance.choice([3, 50, 1000])} for _ in range(chance.choice([1, 1, 2]))]
+        threads = [{"program": program_of(chance, reach, False), "steps": chance.choice([3, 50, 1000])}
+                   for _ in range(chance.choice([1, 1, 2]))]
         box = {"name": f"b{place}", "size": size, **({"secret": True} if place == owner else {}), "thread": threads}
         boxes.append({**box, **({"grant": grants} if grants else {})})
     names = [f"b{place}.{thread}" for place, box in enumerate(boxes) for thread in range(len(box["thread"]))]

@@ -47,7 +47,8 @@ class Generated(unittest.TestCase):
         self.assertEqual([box.name for box in firmware.boxes], [words[1] for words in lines if words[0] == "box"])
         for box in firmware.boxes:
             self.assertIn(("rw", box.own.base, box.own.length), items)
-            self.assertEqual([item.range for item in box.items[len(box.items) - len(box.grants):]], [grant.range for grant in box.grants])
+            last = box.items[len(box.items) - len(box.grants):]
+            self.assertEqual([item.range for item in last], [grant.range for grant in box.grants])
 
     def decided(self, firmware, log):
         """Compares each verdict with that of the slots, and each slot with what the box holds."""

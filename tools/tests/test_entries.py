@@ -104,7 +104,8 @@ class CheckEntries(Entries):
 
     def test_what_is_no_check_text_is_refused(self):
         cut = text(CHECK)[:-20]
-        wrong = [text(REFUSAL), "", text(LOG), text(INPUT), (TOP / BINARY).read_bytes(), cut, text(CHECK).replace("item rx", "item wx")]
+        changed = text(CHECK).replace("item rx", "item wx")
+        wrong = [text(REFUSAL), "", text(LOG), text(INPUT), (TOP / BINARY).read_bytes(), cut, changed]
         for content in wrong:
             self.refuses("memory-map", stdin=content)
             self.refuses("memory-map", "--svg", stdin=content)
@@ -145,7 +146,8 @@ class InputEntries(Entries):
 
     def test_each_example_is_scheduled(self):
         for path in inputs():
-            self.assertIn("script = [", self.answers("schedule", path, text(path).split('"')[1]))
+            with self.subTest(path=path):
+                self.assertIn("script = [", self.answers("schedule", path, text(path).split('"')[1]))
 
     def test_what_is_no_accepted_input_is_refused(self):
         for wrong in NO_INPUT:
