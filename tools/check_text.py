@@ -71,7 +71,7 @@ class CheckReader:
         boxes = []
         while self.at < len(self.lines) - 1:
             boxes.append(self.box())
-        if not boxes or self.lines[self.at] != "":
+        if not boxes or self.at != len(self.lines) - 1 or self.lines[self.at] != "":
             self.bad()
         if len({box.name for box in boxes}) != len(boxes):
             raise Wrong(f"{self.name} is no text of 'check': two boxes have one name")

@@ -5,7 +5,7 @@ from tools.files import read_text
 from tools.firmware import firmware_of
 from tools.log_text import Access, End, Flush, Rotate, Switch, Turn, read_log
 from tools.numbers import hexadecimal, of
-from tools.replay import Replay, place_of
+from tools.replay import Replay, followed, place_of
 from tools.unit import NEEDS, Pair, Unit
 
 NOTES = """LINE is the number of a line of LOG, from 1; without it each fault of the log is explained. The log is followed line
@@ -122,7 +122,10 @@ def answer(parsed):
     """The text and the status."""
     log = read_log(read_text(parsed.log), parsed.log)
     wanted = wanted_line(log, parsed.line)
-    replay = Replay(firmware_of(parsed.file), log)
+    firmware = firmware_of(parsed.file)
+    # The whole log is followed before anything is said of a line.
+    followed(firmware, log)
+    replay = Replay(firmware, log)
     blocks = []
     for item in replay:
         is_fault = isinstance(item, Turn) and item.reply.word == "fault"
