@@ -2,7 +2,6 @@
 from tools import rules
 from tools.numbers import hexadecimal
 
-KINDS = ("top", "board", "heap")
 SHOWN = 40
 
 

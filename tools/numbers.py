@@ -15,11 +15,6 @@ def address(text):
     return int(text, 16) if HEXADECIMAL.match(text) else None
 
 
-def is_power(number):
-    """Whether the number is a power of two."""
-    return number > 0 and number & (number - 1) == 0
-
-
 def power_up(number):
     """The least power of two at or above a number of at least 1."""
     return 1 << (number - 1).bit_length()

@@ -3,6 +3,8 @@ import json
 import unittest
 import xml.etree.ElementTree as tree
 
+from tools.firmware import firmware_of
+from tools.numbers import hexadecimal
 from tools.tests.support import DATA, TOP, inputs, log_of, needs_program, refused, run_entry, text
 
 WRONG = DATA / "wrong"
@@ -142,12 +144,13 @@ class InputEntries(Entries):
         for path in inputs():
             self.assertIn("own memory of", self.answers("memory-map", path))
             tree.fromstring(self.answers("memory-map", path, "--svg"))
-            self.assertIn(" rw\n", self.answers("who-holds", "0x20000000", path))
+            own = firmware_of(str(TOP / path)).boxes[0].own
+            self.assertIn(" rw\n", self.answers("who-holds", hexadecimal(own.base), path))
 
     def test_each_example_is_scheduled(self):
         for path in inputs():
             with self.subTest(path=path):
-                self.assertIn("script = [", self.answers("schedule", path, text(path).split('"')[1]))
+                self.assertIn("script = [", self.answers("schedule", path, "--round-robin", 1))
 
     def test_what_is_no_accepted_input_is_refused(self):
         for wrong in NO_INPUT:

@@ -15,6 +15,8 @@ from tools.tests.support import DATA, TOP, inputs, log_of, needs_program, run_en
 
 GRANT = re.compile(r"a grant of (\w+) allows it: base = (0x[0-9A-F]+), len = 0x20, rights = \"(\w+)\"(, shared = true)?")
 RIGHTS = re.compile(r"grant (\d+) of (\w+) allows it with rights = \"(\w+)\"")
+READ = re.compile(r"turn \S+ ok 0x")
+SHORT = 60
 HEX = re.compile(r"0x[0-9A-F]{8}")
 
 
@@ -35,18 +37,17 @@ class Following(unittest.TestCase):
                 followed(firmware_of(str(TOP / path)), read_log(text(log_of(path)), "log"))
 
     def test_a_log_with_a_changed_number_is_refused(self):
-        # What a handler loaded is gone when it returns, and what memory holds is not followed.
-        unknown = "turn sensor.0 ok 0x00000041"
-        for path in inputs():
+        # What memory holds is not followed, so a value that was read, and is gone at the end, may be any.
+        for path in inputs(SHORT):
             firmware = firmware_of(str(TOP / path))
             lines = text(log_of(path)).split("\n")
             for place, line in enumerate(lines):
-                for other in flipped(line if line != unknown else ""):
+                for other in flipped(line if not READ.match(line) else ""):
                     with self.subTest(path=path, other=other), self.assertRaises(Wrong):
                         followed(firmware, read_log("\n".join([*lines[:place], other, *lines[place + 1:]]), "log"))
 
     def test_a_log_without_one_of_its_turns_is_refused(self):
-        for path in inputs():
+        for path in inputs(SHORT):
             firmware = firmware_of(str(TOP / path))
             lines = text(log_of(path)).split("\n")
             for place, line in enumerate(lines):
@@ -82,6 +83,26 @@ class Explained(unittest.TestCase):
     def test_interrupts_are_told(self):
         self.assertIn("line 5 is rung by device 0", self.told("interrupt", 1))
         self.assertIn("the interrupt of line 5 is delivered", self.told("interrupt", 5))
+
+    def test_statuses_of_page_calls_are_told(self):
+        self.assertIn("status 6, the table is not aligned, or the box may not write it", self.told("statuses", 4))
+        self.assertIn("it was given page 0", self.told("statuses", 9))
+        self.assertIn("status 7, the address is not that of a page", self.told("statuses", 11))
+        self.assertIn("status 8, the box does not own the page", self.told("statuses", 13))
+
+    def test_gateways_are_told(self):
+        self.assertIn("gw_read r1 1", self.told("gateways", 4))
+        self.assertIn("status 9, the box or the thread may not do that", self.told("gateways", 5))
+        status, said, noted = run_entry("who-holds", "0x40000102", DATA / "gateways.toml")
+        self.assertEqual((status, said), (1, "no box\n"))
+        self.assertEqual(noted, [f"who-holds: register gateway {number} reaches it for a" for number in ("0 (replace)", "1 (read)")])
+        self.assertIn("register gateway 0 0x40000100 replace: a\n", run_entry("memory-map", DATA / "gateways.toml")[1])
+
+    def test_a_page_is_held_by_no_item(self):
+        status, said, noted = run_entry("who-holds", "0x20008400", DATA / "statuses.toml")
+        self.assertEqual((status, said, len(noted)), (1, "no box\n", 1))
+        self.assertIn("page 1 of the heap", noted[0])
+        self.assertIn("heap                            (pages)\n", run_entry("memory-map", DATA / "statuses.toml")[1])
 
     def test_waiting_is_told(self):
         self.assertIn("p.0: it waits for its call", self.told("waiting", 5))
