@@ -25,6 +25,7 @@ def accepted(command, content, path):
     """The text of an accepted input; a refused one is refused here too."""
     status, text = answered(command, content)
     if status == REFUSED:
-        more = f" ('scripts/lint {path}' says more)" if read_refusal(text).name != "NotYet" else ""
+        linted = Path(path).is_file() and read_refusal(text).name != "NotYet"
+        more = f" ('scripts/lint {path}' says more)" if linted else ""
         raise Wrong(f"{path} is refused by '{command}': {text.strip()}{more}")
     return text
