@@ -10,7 +10,8 @@ module _ {P : Type 0} where
 
   -- each part of each view meets the fact
   abbrev pub Every : (P → Type 0) → List (List P) → Type 0
-  Every F vs = (i : ℕ) (v : List P) (j : ℕ) (p : P) → get_elem? vs i ≡ some v → get_elem? v j ≡ some p → F p
+  Every F vs = (i : ℕ) (v : List P) (j : ℕ) (p : P) → get_elem? vs i ≡ some v
+      → get_elem? v j ≡ some p → F p
 
   -- 1 where the number of the part is k, and 0 elsewhere
   abbrev pub is_at : (P → ℕ) → ℕ → P → ℕ

@@ -1,0 +1,16 @@
+pub mod Agreeing
+pub mod Counts
+pub mod InboxFree
+pub mod InboxPut
+pub mod InboxSteps
+pub mod InboxTake
+pub mod InboxTurned
+pub mod LinesKept
+pub mod LinesWhole
+pub mod Masks
+pub mod Queues
+pub mod SeatSteps
+pub mod TakeSteps
+pub mod InboxWhole
+pub mod QueueEnd
+pub mod InboxEnd

@@ -1,0 +1,13 @@
+pub mod Bits
+pub mod InboxParts
+pub mod InboxPlays
+pub mod InboxRule
+pub mod InboxSeats
+pub mod InboxTold
+pub mod LinesPlays
+pub mod LinesRule
+pub mod LinesTold
+pub mod Queue
+pub mod Seen
+pub mod Tickets
+pub mod Times

@@ -1,0 +1,2 @@
+mod inboxes;
+mod lines;
