@@ -1,5 +1,5 @@
 -- How a printer goes through a text, piece by piece.
-use Rattle.std.proofs.Common.{◌≡◌, ℕ, List, [], ◌++◌, take, drop, Option, refl, sym, ap, ◌∙◌, append_assoc}
+use Rattle.std.proofs.Common.{◌≡◌, ℕ, List, [], ◌++◌, take, drop, Option, refl, sym, ap, ◌∙◌, arith, append_assoc, length-append}
 use Rattle.std.proofs.lemmas.List.{append-nil, take-append-drop}
 use Rattle.std.specs.Io.KnownBytes.{append_known}
 use Rattle.io_edge.specs.Written.{Wrote, WrotePart}
@@ -28,6 +28,7 @@ wrote-part {old} {now = now} {text = text} piece rest so_far part =
     let whole : (shown ++ part.rest) ++ rest ≡ piece ++ rest = ap (λ xs. xs ++ rest) part.so_far.whole in
     record {
       rest = part.rest ++ rest;
+      unwritten = omega (arith, length-append part.rest rest, part.unwritten);
       so_far = wrote-more shown (part.rest ++ rest) (rw (← append_assoc shown part.rest rest, whole) so_far) part.so_far.written;
     }
 

@@ -1,7 +1,7 @@
-ghost use Rattle.std.specs.Prelude.{◌≡◌, ℕ, ◌<◌, ◌≤◌, List, length, take};
+ghost use Rattle.std.specs.Prelude.{◌≡◌, ℕ, ◌<◌, List, length, take};
 ghost use Rattle.std.specs.declared.option.Option.{Option};
 ghost use Rattle.std.specs.Io.KnownBytes.{append_known, prepend_known};
-ghost use Rattle.io_edge.specs.Ends.{IsPull, IsPush, pulled_count, pushed_count};
+ghost use Rattle.io_edge.specs.Ends.{IsPull, IsPush, faults_after_pull, faults_after_push, pulled_count, pushed_count};
 
 /// What one read gave.
 #[derive(Clone, Copy, PartialEq, Eq, Debug)]
@@ -36,12 +36,12 @@ pub trait Source {
         requires { 0 < length buf.old }
 
         // It says what it gave, and those bytes are the next of what was left.
-        ensures pull { IsPull (length buf.old) (left self.old) (faults self.old) (faults self.new)
-            result }
+        ensures pull { IsPull (length buf.old) (left self.old) result }
         ensures bytes { left self.old
             ≡ prepend_known (take (pulled_count result) buf.new) (left self.new) }
 
-        ensures later { faults self.old ≤ faults self.new };
+        // A failed read is counted once, and nothing else is.
+        ensures counted { faults self.new ≡ faults_after_pull (faults self.old) result };
 }
 
 /// Where bytes go. A sink counts its faults, and it may tell which bytes were written.
@@ -57,9 +57,10 @@ pub trait Sink {
         requires { 0 < length piece.now }
 
         // It says what it took, and those bytes come after what was written.
-        ensures push { IsPush (length piece.now) (faults self.old) (faults self.new) result }
+        ensures push { IsPush (length piece.now) result }
         ensures bytes { written self.new
             ≡ append_known (written self.old) (take (pushed_count result) piece.now) }
 
-        ensures later { faults self.old ≤ faults self.new };
+        // A failed write is counted once, and nothing else is.
+        ensures counted { faults self.new ≡ faults_after_push (faults self.old) result };
 }

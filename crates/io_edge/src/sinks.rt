@@ -1,6 +1,6 @@
 ghost use Rattle.std.specs.Prelude.{◌≡◌, ◌+◌, ◌-◌, ◌<◌, ◌≤◌, ◌++◌, None, Some, length, take, vec_capacity, vec_len};
 ghost use Rattle.std.specs.Io.KnownBytes.{append_known};
-ghost use Rattle.io_edge.specs.Ends.{IsPush, pushed_count};
+ghost use Rattle.io_edge.specs.Ends.{IsPush, faults_after_push, pushed_count};
 ghost use Rattle.io_edge.specs.Sinks.{push_of, sink_after};
 
 use crate::ends::{Pushed, Sink};
@@ -87,10 +87,10 @@ impl Sink for MemSink {
     fn write(&mut self, piece: &[u8]) -> Pushed
         requires { 0 < length piece.now }
 
-        ensures push { IsPush (length piece.now) self.old.faults self.new.faults result }
+        ensures push { IsPush (length piece.now) result }
         ensures bytes { Some self.new.bytes
             ≡ append_known (Some self.old.bytes) (take (pushed_count result) piece.now) }
-        ensures later { self.old.faults ≤ self.new.faults }
+        ensures counted { self.new.faults ≡ faults_after_push self.old.faults result }
 
         // It fails at the calls that it was told and where it is full, else takes what it may.
         ensures answer { result ≡ push_of self.old (length piece.now) }
@@ -119,7 +119,7 @@ impl Sink for NullSink {
 
     fn write(&mut self, piece: &[u8]) -> Pushed
         requires { 0 < length piece.now }
-        ensures push { IsPush (length piece.now) 0 0 result }
+        ensures push { IsPush (length piece.now) result }
         ensures answer { result ≡ Pushed.Bytes (length piece.now) }
     {
         Pushed::Bytes(piece.len())

@@ -1,6 +1,6 @@
 ghost use Rattle.std.specs.Prelude.{◌≡◌, ℕ, ◌<◌, ◌≤◌, Some, length, drop, min, take};
 ghost use Rattle.std.specs.Io.KnownBytes.{prepend_known};
-ghost use Rattle.io_edge.specs.Ends.{IsPull, pulled_count};
+ghost use Rattle.io_edge.specs.Ends.{IsPull, faults_after_pull, pulled_count};
 ghost use Rattle.io_edge.specs.Sources.{bytes_or_end, pull_of, source_after};
 
 use crate::ends::{Pulled, Source};
@@ -87,11 +87,10 @@ impl Source for MemSource {
     fn read(&mut self, buf: &mut [u8]) -> Pulled
         requires { 0 < length buf.old }
 
-        ensures pull { IsPull (length buf.old) (Some self.old.left) self.old.faults
-            self.new.faults result }
+        ensures pull { IsPull (length buf.old) (Some self.old.left) result }
         ensures bytes { Some self.old.left
             ≡ prepend_known (take (pulled_count result) buf.new) (Some self.new.left) }
-        ensures later { self.old.faults ≤ self.new.faults }
+        ensures counted { self.new.faults ≡ faults_after_pull self.old.faults result }
 
         // It fails at the calls that it was told, and else gives as much as it may.
         ensures answer { result ≡ pull_of self.old (length buf.old) }
@@ -152,7 +151,7 @@ impl Source for SureSource {
     fn read(&mut self, buf: &mut [u8]) -> Pulled
         requires { 0 < length buf.old }
 
-        ensures pull { IsPull (length buf.old) (Some self.old) 0 0 result }
+        ensures pull { IsPull (length buf.old) (Some self.old) result }
         ensures bytes { Some self.old
             ≡ prepend_known (take (pulled_count result) buf.new) (Some self.new) }
 

@@ -1,4 +1,4 @@
-ghost use Rattle.std.specs.Prelude.{◌≡◌, ◌<◌, ◌≤◌, None, length, take};
+ghost use Rattle.std.specs.Prelude.{◌≡◌, ◌<◌, None, length, take};
 ghost use Rattle.std.specs.Io.KnownBytes.{Appends, Consumes};
 ghost use Rattle.io_edge.specs.Ends.{IsPull, IsPush, faults_after_pull, faults_after_push, pulled_count, pushed_count};
 
@@ -39,14 +39,11 @@ impl<R: Read> Source for StdinSource<R> {
         requires { 0 < length buf.old }
 
         // It passes on what the stream gives, where the stream tells that.
-        ensures pull { IsPull (length buf.old) (R.remaining self.old.stream) self.old.faults
-            self.new.faults result }
+        ensures pull { IsPull (length buf.old) (R.remaining self.old.stream) result }
         ensures given { Consumes (R.remaining self.old.stream) (R.remaining self.new.stream)
             (take (pulled_count result) buf.new) }
 
-        ensures later { self.old.faults ≤ self.new.faults }
-
-        // The count rises by one where it failed, and nowhere else.
+        // A failed call is counted once, and nothing else is.
         ensures counted { self.new.faults ≡ faults_after_pull self.old.faults result }
     {
         match self.stream.read(buf) {
@@ -60,7 +57,8 @@ impl<R: Read> Source for StdinSource<R> {
     }
 }
 
-/// Standard output as a sink, over a stream that holds no bytes back. It tells nothing of the bytes.
+/// Standard output as a sink, over a stream that holds no bytes back. It tells nothing of the
+/// bytes.
 #[derive(Drop)]
 pub struct StdoutSink<W> {
     stream: W,
@@ -93,13 +91,11 @@ impl<W: Write> Sink for StdoutSink<W> {
         requires { 0 < length piece.now }
 
         // The stream took what it says, where the stream tells that.
-        ensures push { IsPush (length piece.now) self.old.faults self.new.faults result }
+        ensures push { IsPush (length piece.now) result }
         ensures taken { Appends (W.contents self.old.stream) (W.contents self.new.stream)
             (take (pushed_count result) piece.now) }
 
-        ensures later { self.old.faults ≤ self.new.faults }
-
-        // The count rises by one where it failed, and nowhere else.
+        // A failed call is counted once, and nothing else is.
         ensures counted { self.new.faults ≡ faults_after_push self.old.faults result }
     {
         match self.stream.write(piece) {

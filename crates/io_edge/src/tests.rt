@@ -140,3 +140,23 @@ fn streams_that_fail_are_faults(rt: HostRuntime) {
     assert_eq!(rt; write_all(&mut sink, LINES), Err(WriteErr::Fault));
     assert_eq!(rt; room, *b"unit");
 }
+
+#[test]
+fn errors_say_what_failed(rt: HostRuntime) -> Result<(), Fail> {
+    let table: [(ReadErr, &str); 3] = [
+        (ReadErr::Fault, "a read failed"),
+        (
+            ReadErr::TooLong,
+            "there are more bytes than the limit allows",
+        ),
+        (ReadErr::Memory, "out of memory"),
+    ];
+    for (error, text) in table {
+        let told = format!(in rt.alloc(); "{error}")?;
+        assert_eq!(rt; told.as_str(), text);
+    }
+    let error = WriteErr::Fault;
+    let told = format!(in rt.alloc(); "{error}")?;
+    assert_eq!(rt; told.as_str(), "a write failed");
+    Ok(())
+}

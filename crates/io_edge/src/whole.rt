@@ -1,7 +1,7 @@
 ghost use Rattle.std.specs.Prelude.{◌≡◌, ◌+◌, ◌^◌, ◌<◌, ◌≤◌, length, IfOk, OnOk, OnErr, IsErr};
 ghost use Rattle.std.specs.Result.{IsErrOf};
 ghost use Rattle.std.specs.Io.KnownBytes.{IsAtEnd, append_known, prepend_known};
-ghost use Rattle.io_edge.specs.Counts.{Rose};
+ghost use Rattle.io_edge.specs.Counts.{IsCounted};
 ghost use Rattle.io_edge.specs.Taken.{Takes, TakesAtMost};
 ghost use Rattle.io_edge.specs.Written.{WrotePart};
 
@@ -46,8 +46,9 @@ pub fn read_all<S: Source>(alloc: Global, src: &mut S, limit: usize) -> Result<V
     ensures others { ¬ IsErrOf result ReadErr.TooLong
         → TakesAtMost limit (S.left src.old) (S.left src.new) }
 
-    ensures fault_only { IsErrOf result ReadErr.Fault → Rose (S.faults src.old) (S.faults src.new) }
-    ensures later { S.faults src.old ≤ S.faults src.new }
+    // A fault is the answer exactly where a read failed, which is counted once.
+    ensures faults { IsCounted (IsErrOf result ReadErr.Fault)
+        (S.faults src.old) (S.faults src.new) }
 {
     let mut all = Vec::new(alloc);
     let mut buf = [0u8; PIECE];
@@ -72,8 +73,8 @@ pub fn write_all<K: Sink>(sink: &mut K, bytes: &[u8]) -> Result<(), WriteErr>
     ensures ok { OnOk result (K.written sink.new ≡ append_known (K.written sink.old) bytes.now) }
     ensures err { OnErr result (WrotePart (K.written sink.old) (K.written sink.new) bytes.now) }
 
-    ensures fault_only { IsErr result → Rose (K.faults sink.old) (K.faults sink.new) }
-    ensures later { K.faults sink.old ≤ K.faults sink.new }
+    // It fails exactly where a write failed, which is counted once.
+    ensures faults { IsCounted (IsErr result) (K.faults sink.old) (K.faults sink.new) }
 {
     let mut rest = bytes;
     'writes: while !rest.is_empty() {

@@ -30,7 +30,7 @@ use Rattle.flat_model.specs.declared.parts.Config.{Config}
 use Rattle.flat_model.proofs.NamedChoices.{both_true}
 use Rattle.flat_model.specs.Log.{ascends, is_full_reply, is_idle_reply, is_named_choice, is_named_frames, is_named_item, is_named_line, is_named_verdict, is_ring_reply, is_size, is_start_reply, is_turn_reply}
 use Rattle.flat_model.specs.Sound.{IsSound}
-use Rattle.flat_model.specs.Step.{home_of}
+use Rattle.flat_model.specs.CallRows.{home_of}
 use Rattle.flat_model.specs.Text.{entry_words, flaw_text, hex_word, item_words, kind_text, mode_text, reply_words, thread_text, ticket_text, unit_words, verdict_words}
 use Rattle.run_log.specs.Candidates.{done_of, end_of, flaw_of, frames_of, had_room, idle_of, item_of, kind_of, mode_of, reply_of, ring_of, smalls_at, start_of, start_reply_of, started_of, ticket_of, turn_of, unit_of, verdict_of}
 use Rattle.run_log.specs.LineWords.{number_of, small_of, word_at}

@@ -1,12 +1,16 @@
 -- How a printer goes through a text by way of a page.
-use Rattle.std.proofs.Common.{◌≡◌, ℕ, zero, suc, ◌+◌, ◌<◌, Bool, true, arith, List, [], ◌∷◌, ◌++◌, length, take, get_or, Option, Result, Ok, Err, sym, ap, ◌∙◌, append_assoc}
+use Rattle.std.proofs.Common.{◌≡◌, ℕ, zero, suc, ◌+◌, ◌<◌, Bool, true, false, arith, List, [], ◌∷◌, ◌++◌, length, take, get_or, Option, Result, Ok, Err, refl, sym, ap, ◌∙◌, append_assoc}
 use Rattle.std.proofs.lemmas.List.{append-nil, take_more}
 use Rattle.std.specs.List.{AllByRecursion, list_all}
 use Rattle.flat_model.proofs.NamedChoices.{both_true}
 use Rattle.flat_model.proofs.Elements.{each-append}
-use Rattle.std.specs.Prelude.{OnErr}
+use Rattle.std.specs.Prelude.{IsErr, OnErr, ⊤}
+use Rattle.std.proofs.lemmas.Bool.{false≢true}
+use Rattle.io_edge.specs.declared.whole.WriteErr.{WriteErr}
+use Rattle.io_edge.specs.Counts.{IsCounted, next_count}
 use Rattle.io_edge.specs.Written.{Wrote, WrotePart}
 use Rattle.io_edge.proofs.Written.{wrote-more, wrote-part}
+use Rattle.run_log.specs.Printed.{IsPrinted}
 
 -- more text is left
 pub wrote-longer : {old now : Option (List ℕ)} (text more rest : List ℕ) → Wrote old now text rest → Wrote old now (text ++ more) (rest ++ more)
@@ -37,6 +41,23 @@ wrote-line page roomy after line left rest is_left so_far room printed =
 pub on_err : {T E P : Type 0} (r : Result T E) → P → OnErr r P
 on_err (Ok x) p = tt
 on_err (Err e) p = p
+
+-- where nothing failed, the count is as before
+pub count_kept : {before mid after : ℕ} → mid ≡ before → IsCounted (false ≡ true) mid after → after ≡ before
+count_kept same counted = counted.kept (λ failed. absurd (false≢true failed)) ∙ same
+
+-- where the last part failed, the count is one higher
+pub count_rose : {before mid after : ℕ} → mid ≡ before → IsCounted (true ≡ true) mid after → after ≡ next_count before
+count_rose same counted = counted.rose refl ∙ ap next_count same
+
+-- a printer failed
+pub printed_failed : {old now : Option (List ℕ)} {before after : ℕ} {text page : List ℕ} (r : Result ⊤ WriteErr) → IsErr r → WrotePart old now text → after ≡ next_count before → IsPrinted old now before after text page r
+printed_failed (Ok x) failed part rose = absurd (false≢true failed)
+printed_failed (Err e) failed part rose = record {
+  ok = tt;
+  err = part;
+  faults = record { rose = λ _. rose; kept = λ none. absurd (none refl) };
+}
 
 -- a second text was printed in part, after the first
 pub wrote-second : {old mid now : Option (List ℕ)} (first second page : List ℕ) → Wrote old mid first page → WrotePart mid now (page ++ second) → WrotePart old now (first ++ second)

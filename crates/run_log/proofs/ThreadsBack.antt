@@ -21,7 +21,7 @@ use Rattle.flat_model.specs.declared.parts.ThreadPart.{ThreadPart}
 use Rattle.flat_model.specs.Names.{AreDistinctNames, is_lower, is_name, is_name_byte}
 use Rattle.flat_model.specs.Placing.{common_range}
 use Rattle.flat_model.specs.Sound.{AreNumbered, homes_from, IsBox, IsSound}
-use Rattle.flat_model.specs.Step.{home_of}
+use Rattle.flat_model.specs.CallRows.{home_of}
 use Rattle.flat_model.specs.Text.{box_name, first_thread, thread_text, ticket_text}
 use Rattle.run_log.specs.Candidates.{box_of, thread_of, ticket_of}
 use Rattle.run_log.specs.LineWords.{is_dot, is_hash}

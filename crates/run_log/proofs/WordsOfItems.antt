@@ -28,7 +28,7 @@ use Rattle.flat_model.specs.declared.parts.Config.{Config}
 use Rattle.flat_model.proofs.NamedChoices.{both_true}
 use Rattle.flat_model.specs.Log.{is_full_reply, is_idle_reply, is_named_choice, is_named_item, is_named_line, is_named_verdict, is_ring_reply, is_size, is_start_reply, is_turn_reply}
 use Rattle.flat_model.specs.Sound.{IsSound}
-use Rattle.flat_model.specs.Step.{home_of}
+use Rattle.flat_model.specs.CallRows.{home_of}
 use Rattle.flat_model.specs.Text.{box_name, entry_words, flaw_text, hex_word, item_words, kind_text, mode_text, reply_words, thread_text, unit_words, verdict_words}
 use Rattle.run_log.specs.Typed.{Fits8, IsTypedChoice, IsTypedEnd, IsTypedItem, IsTypedLine, IsTypedReply}
 use Rattle.run_log.proofs.ThreadsBack.{box_name_above, thread_above, ticket_above}

@@ -24,7 +24,7 @@ use Rattle.flat_model.specs.declared.events.UnitLine.{UnitLine}
 use Rattle.flat_model.specs.declared.events.UnitLine.TheVariants as line
 use Rattle.flat_model.specs.declared.logs.End.{End}
 use Rattle.flat_model.specs.declared.parts.Config.{Config}
-use Rattle.flat_model.specs.Step.{home_of}
+use Rattle.flat_model.specs.CallRows.{home_of}
 use Rattle.flat_model.specs.Text.{first_thread}
 use Rattle.run_log.specs.LineWords.{is_dot, is_hash, number_of, small_of, word_at}
 

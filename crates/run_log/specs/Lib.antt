@@ -1,6 +1,7 @@
 pub mod Candidates
 pub mod LineWords
 pub mod Lines
+pub mod Printed
 pub mod Reading
 pub mod Sample
 pub mod Spaced

@@ -12,6 +12,7 @@ use flat_model::{
     Started, ThreadId, Ticket, UnitLine, Verdict,
 };
 
+// The box with this name; a number past the last one where there is none.
 #[tactic(auto, unfolding(crate::specs::Candidates::box_of))]
 fn box_of(config: &Config, name: &[u8]) -> BoxId
     ensures { result ≡ box_of config.now name.now }
@@ -26,6 +27,7 @@ fn box_of(config: &Config, name: &[u8]) -> BoxId
     BoxId(number)
 }
 
+// The thread that a word names by its box, a dot and its index.
 #[tactic(auto, unfolding(crate::specs::Candidates::thread_of))]
 fn thread_of(config: &Config, word: &[u8]) -> ThreadId
     ensures { result ≡ thread_of config.now word.now }
@@ -35,6 +37,7 @@ fn thread_of(config: &Config, word: &[u8]) -> ThreadId
     ThreadId(first.saturating_add(number_of(10, index)).min(255) as u8)
 }
 
+// The ticket that a word names by its thread, a `#` and its number.
 #[tactic(auto, unfolding(crate::specs::Candidates::ticket_of))]
 fn ticket_of(config: &Config, word: &[u8]) -> Ticket
     ensures { result ≡ ticket_of config.now word.now }
@@ -46,6 +49,7 @@ fn ticket_of(config: &Config, word: &[u8]) -> Ticket
     }
 }
 
+// The kind of access that a word names.
 #[tactic(auto, unfolding(crate::specs::Candidates::kind_of))]
 fn kind_of(word: &[u8]) -> Kind
     ensures { result ≡ kind_of word.now }
@@ -59,6 +63,7 @@ fn kind_of(word: &[u8]) -> Kind
     }
 }
 
+// The cause of a fault that a word names.
 #[tactic(auto, unfolding(crate::specs::Candidates::flaw_of))]
 fn flaw_of(word: &[u8]) -> Flaw
     ensures { result ≡ flaw_of word.now }
@@ -74,6 +79,7 @@ fn flaw_of(word: &[u8]) -> Flaw
     }
 }
 
+// The state of a thread that a word names.
 #[tactic(auto, unfolding(crate::specs::Candidates::mode_of))]
 fn mode_of(word: &[u8]) -> Mode
     ensures { result ≡ mode_of word.now }
@@ -91,6 +97,7 @@ fn mode_of(word: &[u8]) -> Mode
     }
 }
 
+// What the unit decided, by the end of an access line.
 #[tactic(auto, unfolding(crate::specs::Candidates::verdict_of))]
 fn verdict_of(line: &[u8]) -> Verdict
     ensures { result ≡ verdict_of (words_of line.now) }
@@ -102,6 +109,7 @@ fn verdict_of(line: &[u8]) -> Verdict
     }
 }
 
+// The unit's line that a line beginning with `unit` is.
 #[tactic(auto, unfolding(crate::specs::Candidates::unit_of))]
 fn unit_of(config: &Config, line: &[u8]) -> UnitLine
     ensures { result ≡ unit_of config.now (words_of line.now) }
@@ -128,6 +136,7 @@ fn unit_of(config: &Config, line: &[u8]) -> UnitLine
     }
 }
 
+// The frames that a reply lists behind `frames`.
 #[tactic(auto, unfolding(crate::specs::Candidates::frames_of))]
 fn frames_of(line: &[u8]) -> Frames
     ensures { result ≡ frames_of (words_of line.now) }
@@ -155,6 +164,7 @@ fn frames_of(line: &[u8]) -> Frames
     }
 }
 
+// The call that a start line shows, with the box of its caller.
 #[tactic(auto, unfolding(crate::specs::Candidates::started_of))]
 fn started_of(config: &Config, ticket: Ticket, line: &[u8]) -> Started
     ensures { result ≡ started_of config.now ticket (words_of line.now) }
@@ -171,6 +181,7 @@ fn started_of(config: &Config, ticket: Ticket, line: &[u8]) -> Started
     }
 }
 
+// The reply `ok`, with a value where a fourth word stands.
 #[tactic(auto, unfolding(crate::specs::Candidates::done_of))]
 fn done_of(line: &[u8]) -> Reply
     ensures { result ≡ done_of (words_of line.now) }
@@ -182,6 +193,7 @@ fn done_of(line: &[u8]) -> Reply
     }
 }
 
+// The reply that a turn line shows.
 #[tactic(auto, unfolding(crate::specs::Candidates::reply_of))]
 fn reply_of(line: &[u8]) -> Reply
     ensures { result ≡ reply_of (words_of line.now) }
@@ -211,6 +223,7 @@ fn reply_of(line: &[u8]) -> Reply
     }
 }
 
+// Whether a turn with this reply had room for its call: status 3 is the answer where there is none.
 #[tactic(auto, unfolding(crate::specs::Candidates::had_room))]
 fn had_room(reply: &Reply) -> bool
     ensures { result ≡ had_room reply.now }
@@ -221,6 +234,7 @@ fn had_room(reply: &Reply) -> bool
     }
 }
 
+// The turn that a line beginning with `turn` is.
 #[tactic(auto, unfolding(crate::specs::Candidates::turn_of))]
 fn turn_of(config: &Config, line: &[u8]) -> Logged
     ensures { result ≡ turn_of config.now (words_of line.now) }
@@ -235,6 +249,7 @@ fn turn_of(config: &Config, line: &[u8]) -> Logged
     })
 }
 
+// The reply that a start line shows.
 #[tactic(auto, unfolding(crate::specs::Candidates::start_reply_of))]
 fn start_reply_of(config: &Config, line: &[u8]) -> Reply
     ensures { result ≡ start_reply_of config.now (words_of line.now) }
@@ -247,6 +262,7 @@ fn start_reply_of(config: &Config, line: &[u8]) -> Reply
     }
 }
 
+// The start of a call that a line beginning with `start` is.
 #[tactic(auto, unfolding(crate::specs::Candidates::start_of))]
 fn start_of(config: &Config, line: &[u8]) -> Logged
     ensures { result ≡ start_of config.now (words_of line.now) }
@@ -260,6 +276,7 @@ fn start_of(config: &Config, line: &[u8]) -> Logged
     })
 }
 
+// The idle look that a line beginning with `idle` is.
 #[tactic(auto, unfolding(crate::specs::Candidates::idle_of))]
 fn idle_of(config: &Config, line: &[u8]) -> Logged
     ensures { result ≡ idle_of config.now (words_of line.now) }
@@ -272,6 +289,7 @@ fn idle_of(config: &Config, line: &[u8]) -> Logged
     })
 }
 
+// The ring that a line beginning with `ring` is.
 #[tactic(auto, unfolding(crate::specs::Candidates::ring_of))]
 fn ring_of(line: &[u8]) -> Logged
     ensures { result ≡ ring_of (words_of line.now) }

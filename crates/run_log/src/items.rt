@@ -4,7 +4,7 @@ ghost use Rattle.std.specs.List.{AllByRecursion};
 ghost use Rattle.addr_base.specs.declared.identity.ThreadId.{ThreadId};
 ghost use Rattle.flat_model.specs.Log.{is_named_choice, is_named_item};
 ghost use Rattle.flat_model.specs.Sound.{IsSound};
-ghost use Rattle.flat_model.specs.Step.{home_of};
+ghost use Rattle.flat_model.specs.CallRows.{home_of};
 ghost use Rattle.flat_model.specs.Text.{box_name, end_line, entry_words, first_thread, flaw_text, hex_word, item_line, kind_text, line_of, mode_text, reply_words, thread_text, ticket_text, unit_words, verdict_words};
 ghost use Rattle.run_log.specs.Spaced.{spaced};
 ghost use Rattle.run_log.specs.Typed.{Fits8, Fits32, IsTypedChoice, IsTypedEnd, IsTypedFrames, IsTypedItem, IsTypedLine, IsTypedReply, IsTypedStarted};
@@ -25,6 +25,7 @@ pub fn home_of(config: &Config, t: ThreadId) -> BoxId
     }
 }
 
+// The name of a box, or nothing where there is no such box.
 fn box_name(config: &Config, b: BoxId) -> &[u8]
     ensures { result.now ≡ box_name config.now b.0 }
 {
@@ -69,6 +70,7 @@ pub fn push_thread(config: &Config, t: ThreadId, page: &mut Page)
     page.push_decimal(u32::from(t.0).saturating_sub(first_thread(config, home)));
 }
 
+// Prints a ticket: its thread, a `#`, and its number.
 fn push_ticket(config: &Config, ticket: Ticket, page: &mut Page)
     requires sound { IsSound config.now }
     requires room { length page.old + 38 ≤ 4096 }
@@ -81,6 +83,7 @@ fn push_ticket(config: &Config, ticket: Ticket, page: &mut Page)
     page.push_decimal(ticket.seq);
 }
 
+// Prints the kind of an access between two spaces.
 fn push_kind(kind: Kind, page: &mut Page)
     requires { length page.old + 7 ≤ 4096 }
     ensures text { page.new ≡ page.old ++ 32 ∷ (kind_text kind ++ 32 ∷ []) }
@@ -93,6 +96,7 @@ fn push_kind(kind: Kind, page: &mut Page)
     }
 }
 
+// The word of a cause of a fault.
 fn flaw_text(flaw: Flaw) -> &'static str
     ensures text { result.now ≡ flaw_text flaw }
     ensures short { length result.now ≤ 9 }
@@ -105,6 +109,7 @@ fn flaw_text(flaw: Flaw) -> &'static str
     }
 }
 
+// The word of the state of a thread.
 fn mode_text(mode: Mode) -> &'static str
     ensures text { result.now ≡ mode_text mode }
     ensures short { length result.now ≤ 7 }
@@ -118,6 +123,7 @@ fn mode_text(mode: Mode) -> &'static str
     }
 }
 
+// Prints what the unit decided of an access.
 fn push_verdict(verdict: Verdict, page: &mut Page)
     requires { length page.old + 16 ≤ 4096 }
     ensures text { page.new ≡ page.old ++ spaced (verdict_words verdict) }
@@ -132,9 +138,11 @@ fn push_verdict(verdict: Verdict, page: &mut Page)
     }
 }
 
+// Prints an access and what the unit decided of it.
 fn push_access(kind: Kind, size: u8, at: u32, verdict: Verdict, page: &mut Page)
     requires { length page.old + 56 ≤ 4096 }
-    ensures text { page.new ≡ page.old ++ spaced (kind_text kind ∷ decimal size ∷ hex_word at ∷ verdict_words verdict) }
+    ensures text { page.new ≡ page.old
+        ++ spaced (kind_text kind ∷ decimal size ∷ hex_word at ∷ verdict_words verdict) }
     ensures long { length page.new ≤ length page.old + 56 }
 {
     push_kind(kind, page);
@@ -144,6 +152,7 @@ fn push_access(kind: Kind, size: u8, at: u32, verdict: Verdict, page: &mut Page)
     push_verdict(verdict, page);
 }
 
+// Prints numbers in hexadecimal, each with a space before it.
 fn push_hex_words(numbers: &[u32], page: &mut Page)
     requires { length page.old + 11 * length numbers.now ≤ 4096 }
     ensures text { page.new ≡ page.old ++ spaced (map hex_word numbers.now) }
@@ -156,6 +165,7 @@ fn push_hex_words(numbers: &[u32], page: &mut Page)
     }
 }
 
+// Prints the numbers of frames, each with a space before it.
 fn push_frames(numbers: &[u8], page: &mut Page)
     requires { length page.old + 11 * length numbers.now ≤ 4096 }
     ensures text { page.new ≡ page.old ++ spaced (map decimal numbers.now) }
@@ -167,6 +177,7 @@ fn push_frames(numbers: &[u8], page: &mut Page)
     }
 }
 
+// Prints the first so many of the frames.
 fn push_first_frames(list: &[u8], n: u8, page: &mut Page)
     requires few { length list.now ≤ 16 }
     requires room { length page.old + 176 ≤ 4096 }
@@ -178,6 +189,7 @@ fn push_first_frames(list: &[u8], n: u8, page: &mut Page)
     push_frames(&list[..n], page);
 }
 
+// Prints the frames that a box was given.
 fn push_given(frames: &Frames, page: &mut Page)
     requires { length page.old + 183 ≤ 4096 }
     ensures text { page.new ≡ page.old ++ spaced (reply_words (Reply.Given frames.now)) }
@@ -188,6 +200,7 @@ fn push_given(frames: &Frames, page: &mut Page)
     push_first_frames(&frames.list, frames.n, page);
 }
 
+// Prints the reply to a start that was made: `ok`, the function and its arguments.
 fn push_started(started: &Started, page: &mut Page)
     requires { length page.old + 58 ≤ 4096 }
     ensures text { page.new ≡ page.old ++ spaced (reply_words (Reply.Begun started.now)) }
@@ -199,6 +212,7 @@ fn push_started(started: &Started, page: &mut Page)
     push_hex_words(&started.args, page);
 }
 
+// Prints a reply of any kind.
 fn push_any_reply(reply: &Reply, page: &mut Page)
     requires { length page.old + 183 ≤ 4096 }
     ensures text { page.new ≡ page.old ++ spaced (reply_words reply.now) }
@@ -237,6 +251,7 @@ fn push_any_reply(reply: &Reply, page: &mut Page)
     }
 }
 
+// Prints a reply.
 fn push_reply(reply: &Reply, page: &mut Page)
     requires { length page.old + 183 ≤ 4096 }
     ensures text { page.new ≡ page.old ++ spaced (reply_words reply.now) }
@@ -250,6 +265,7 @@ fn push_reply(reply: &Reply, page: &mut Page)
     }
 }
 
+// Prints a unit's line without its end.
 fn push_unit(config: &Config, line: &UnitLine, page: &mut Page)
     requires sound { IsSound config.now }
     requires room { length page.old + 68 ≤ 4096 }
@@ -283,13 +299,16 @@ fn push_unit(config: &Config, line: &UnitLine, page: &mut Page)
     }
 }
 
+// Prints an event and its reply without the end of the line.
 fn push_entry(config: &Config, entry: &Entry, page: &mut Page)
     requires sound { IsSound config.now }
     requires room { length page.old + 255 ≤ 4096 }
-    ensures text { page.new ++ 10 ∷ [] ≡ page.old ++ line_of (entry_words config.now entry.now.choice entry.now.reply) }
+    ensures text { page.new ++ 10 ∷ []
+        ≡ page.old ++ line_of (entry_words config.now entry.now.choice entry.now.reply) }
     ensures long { length page.new ≤ length page.old + 255 }
     ensures choice { IsTypedChoice entry.now.choice }
-    ensures reply { is_named_choice config.now entry.now.choice entry.now.reply ≡ true → IsTypedReply entry.now.reply }
+    ensures reply { is_named_choice config.now entry.now.choice entry.now.reply ≡ true
+        → IsTypedReply entry.now.reply }
 {
     match entry.choice {
         Choice::Turn { t, room: _ } => {

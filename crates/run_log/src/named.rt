@@ -14,24 +14,28 @@ const REGIONS: u8 = 8;
 // How many interrupt lines there are.
 const LINES: u8 = 64;
 
+// Whether there is such a box.
 fn is_box(config: &Config, b: BoxId) -> bool
     ensures { result ≡ is_box config.now b }
 {
     usize::from(b.0) < config.boxes.len()
 }
 
+// Whether there is such a thread.
 fn is_thread(config: &Config, t: ThreadId) -> bool
     ensures { result ≡ is_thread config.now t }
 {
     usize::from(t.0) < config.threads.len()
 }
 
+// Whether an access may have this size.
 fn is_size(n: u8) -> bool
     ensures { result ≡ is_size n }
 {
     n == 1 || n == 2 || n == 4
 }
 
+// Whether a verdict names a region that the unit has.
 fn is_named_verdict(verdict: Verdict) -> bool
     ensures { result ≡ is_named_verdict verdict }
 {
@@ -41,6 +45,7 @@ fn is_named_verdict(verdict: Verdict) -> bool
     }
 }
 
+// Whether a unit's line names only what is there.
 fn is_named_line(config: &Config, line: &UnitLine) -> bool
     ensures { result ≡ is_named_line config.now line.now }
 {
@@ -57,6 +62,7 @@ fn is_named_line(config: &Config, line: &UnitLine) -> bool
     }
 }
 
+// Whether each number is below the next.
 fn ascends(numbers: &[u8]) -> bool
     ensures { result ≡ ascends numbers.now }
 {
@@ -66,12 +72,14 @@ fn ascends(numbers: &[u8]) -> bool
     numbers[0] < numbers[1] && ascends(&numbers[1..])
 }
 
+// Whether all of the numbers are 0.
 fn are_zeros(numbers: &[u8]) -> bool
     ensures { result ≡ list_all (λ n. nat_eq n 0) numbers.now }
 {
     numbers.iter().all(|n| *n == 0)
 }
 
+// Whether the frames are some, ascend, and the places past the last are 0.
 fn is_named_frames(frames: &Frames) -> bool
     ensures { result ≡ is_named_frames frames.now }
 {
@@ -79,6 +87,7 @@ fn is_named_frames(frames: &Frames) -> bool
     1 <= n && n <= 16 && ascends(&frames.list[..n]) && are_zeros(&frames.list[n..])
 }
 
+// Whether a turn with room may have this reply.
 fn is_turn_reply(reply: &Reply) -> bool
     ensures { result ≡ is_turn_reply reply.now }
 {
@@ -91,6 +100,7 @@ fn is_turn_reply(reply: &Reply) -> bool
     }
 }
 
+// Whether a turn without room may have this reply.
 fn is_full_reply(reply: &Reply) -> bool
     ensures { result ≡ is_full_reply reply.now }
 {
@@ -100,6 +110,7 @@ fn is_full_reply(reply: &Reply) -> bool
     }
 }
 
+// Whether the start of a call may have this reply.
 fn is_start_reply(caller: BoxId, reply: &Reply) -> bool
     ensures { result ≡ is_start_reply caller reply.now }
 {
@@ -110,6 +121,7 @@ fn is_start_reply(caller: BoxId, reply: &Reply) -> bool
     }
 }
 
+// Whether an idle look may have this reply.
 fn is_idle_reply(reply: &Reply) -> bool
     ensures { result ≡ is_idle_reply reply.now }
 {
@@ -119,6 +131,7 @@ fn is_idle_reply(reply: &Reply) -> bool
     }
 }
 
+// Whether a ring may have this reply.
 fn is_ring_reply(reply: &Reply) -> bool
     ensures { result ≡ is_ring_reply reply.now }
 {
@@ -128,6 +141,7 @@ fn is_ring_reply(reply: &Reply) -> bool
     }
 }
 
+// Whether an event names only what is there and has a reply of its kind.
 fn is_named_entry(config: &Config, entry: &Entry) -> bool
     ensures { result ≡ is_named_choice config.now entry.now.choice entry.now.reply }
 {

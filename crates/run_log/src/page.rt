@@ -1,7 +1,7 @@
 ghost use Rattle.std.specs.Prelude.{◌≡◌, ◌+◌, ◌<◌, ◌≤◌, [], ◌∷◌, ◌++◌, length, OnOk, OnErr, IsErr};
 ghost use Rattle.std.specs.Fmt.{decimal};
 ghost use Rattle.flat_model.specs.Text.{hex_digit, hex_word};
-ghost use Rattle.io_edge.specs.Counts.{Rose};
+ghost use Rattle.io_edge.specs.Counts.{IsCounted};
 ghost use Rattle.io_edge.specs.Written.{Wrote, WrotePart};
 
 use io_edge::{Sink, WriteErr, write_all};
@@ -94,7 +94,8 @@ impl Page {
         self.len = end;
     }
 
-    /// Prints a word whose length is known when it is compiled, so that its bytes become one or two stores.
+    /// Prints a word whose length is known when it is compiled, so that its bytes become one or two
+    /// stores.
     pub fn push_word<const N: usize>(&mut self, word: &[u8; N])
         requires { length self.old + length word.now ≤ PAGE }
         ensures text { self.new ≡ self.old ++ word.now }
@@ -120,6 +121,7 @@ impl Page {
         }
     }
 
+    // Prints the digits of a number, the last of them last.
     #[tactic(auto, using(std::proofs::lemmas::Fmt::decimal_digit, crate::proofs::DecimalLemmas::decimal_ends, crate::proofs::DecimalLemmas::decimal_longer))]
     fn push_digits(&mut self, n: u32)
         requires { length self.old + length (decimal n) ≤ PAGE }
@@ -164,12 +166,13 @@ impl Page {
 
     /// Makes room for a line of at most 256 bytes: writes the page where there is too little.
     pub fn make_room<K: Sink>(&mut self, sink: &mut K) -> Result<(), WriteErr>
-        ensures ok { OnOk result (Wrote (K.written sink.old) (K.written sink.new) self.old self.new) }
+        ensures ok { OnOk result
+            (Wrote (K.written sink.old) (K.written sink.new) self.old self.new) }
         ensures room { OnOk result (length self.new + LINE ≤ PAGE) }
         ensures err { OnErr result (WrotePart (K.written sink.old) (K.written sink.new) self.old) }
 
-        ensures fault_only { IsErr result → Rose (K.faults sink.old) (K.faults sink.new) }
-        ensures later { K.faults sink.old ≤ K.faults sink.new }
+        // It fails exactly where a write failed, which is counted once.
+        ensures faults { IsCounted (IsErr result) (K.faults sink.old) (K.faults sink.new) }
     {
         if self.len > PAGE - LINE {
             self.flush(sink)
@@ -180,12 +183,13 @@ impl Page {
 
     /// Writes what was printed.
     pub fn flush<K: Sink>(&mut self, sink: &mut K) -> Result<(), WriteErr>
-        ensures ok { OnOk result (Wrote (K.written sink.old) (K.written sink.new) self.old self.new) }
+        ensures ok { OnOk result
+            (Wrote (K.written sink.old) (K.written sink.new) self.old self.new) }
         ensures empty { OnOk result (self.new ≡ []) }
         ensures err { OnErr result (WrotePart (K.written sink.old) (K.written sink.new) self.old) }
 
-        ensures fault_only { IsErr result → Rose (K.faults sink.old) (K.faults sink.new) }
-        ensures later { K.faults sink.old ≤ K.faults sink.new }
+        // It fails exactly where a write failed, which is counted once.
+        ensures faults { IsCounted (IsErr result) (K.faults sink.old) (K.faults sink.new) }
     {
         write_all(sink, self.as_slice())?;
         self.len = 0;
@@ -193,6 +197,7 @@ impl Page {
     }
 }
 
+// The character of a hexadecimal digit.
 fn hex_digit(digit: u32) -> u8
     requires { digit < 16 }
     ensures { result ≡ hex_digit digit }

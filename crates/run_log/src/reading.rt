@@ -98,6 +98,7 @@ fn next_end<'a>(
     }
 }
 
+// Puts a value behind a list.
 fn push<T: Drop>(list: &mut Vec<T>, value: T) -> Result<(), LogErr>
     ensures ok { OnOk result (list.new.items ≡ list.old.items ++ value ∷ []) }
     ensures err { IfErr result (λ e. e ≡ Memory) }

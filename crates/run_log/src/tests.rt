@@ -187,6 +187,7 @@ fn a_text_that_is_cut_is_refused_where_it_ends(rt: HostRuntime) -> Result<(), Fa
 fn a_bad_line_is_refused_where_it_stands(rt: HostRuntime) -> Result<(), Fail> {
     let config = sound_box(rt.alloc())?;
     for (place, bad, line) in [
+        (0, "turn z.0 ok\n", 1),
         (1, "turn a.0 okay\n", 2),
         (1, "turn a.0 ok \n", 2),
         (1, "turn  a.0 ok\n", 2),

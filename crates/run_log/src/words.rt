@@ -4,6 +4,7 @@ ghost use Rattle.std.specs.Option.{option_copied};
 ghost use Rattle.std.specs.Str.{bytes_eq};
 ghost use Rattle.run_log.specs.LineWords.{digit_of, is_dot, is_hash, is_space, number_of, small_of, word_at, words_of};
 
+// Whether the byte separates words.
 #[tactic(auto, unfolding(crate::specs::LineWords::is_space))]
 fn is_space(b: u8) -> bool
     ensures { result ≡ is_space b }
@@ -11,6 +12,7 @@ fn is_space(b: u8) -> bool
     b == b' '
 }
 
+// The word of a line at a place, where there is one.
 fn some_word(line: &[u8], place: usize) -> Option<&[u8]>
     ensures { option_copied result ≡ slice_get (words_of line.now) place }
 {
@@ -69,6 +71,7 @@ pub fn parted_at_hash(word: &[u8]) -> (&[u8], &[u8])
     (word, &[])
 }
 
+// The value of a digit, also of a hexadecimal one; 0 of any character past them.
 #[tactic(auto, unfolding(crate::specs::LineWords::digit_of))]
 fn digit_of(b: u8) -> u8
     ensures { result ≡ digit_of b }

@@ -4,8 +4,9 @@ ghost use Rattle.std.specs.List.{AllByRecursion, flat_map, list_all};
 ghost use Rattle.flat_model.specs.Log.{IsNamed, is_named_item};
 ghost use Rattle.flat_model.specs.Sound.{IsSound};
 ghost use Rattle.flat_model.specs.Text.{end_lines, item_line, text_of};
-ghost use Rattle.io_edge.specs.Counts.{Rose};
-ghost use Rattle.io_edge.specs.Written.{Wrote, WrotePart};
+ghost use Rattle.io_edge.specs.Counts.{IsCounted};
+ghost use Rattle.io_edge.specs.Written.{WrotePart};
+ghost use Rattle.run_log.specs.Printed.{IsPrinted};
 ghost use Rattle.run_log.specs.Typed.{IsTyped, IsTypedEnd, IsTypedItem};
 
 use crate::items::{push_end, push_item};
@@ -13,6 +14,7 @@ use crate::page::Page;
 use flat_model::{Config, End, Log, Logged, ThreadId};
 use io_edge::{Sink, WriteErr};
 
+// Prints the line of each item.
 fn put_items<K: Sink>(
     config: &Config,
     items: &[Logged],
@@ -21,13 +23,10 @@ fn put_items<K: Sink>(
 ) -> Result<(), WriteErr>
     requires sound { IsSound config.now }
     requires named { list_all (is_named_item config.now) items.now ≡ true }
-    ensures ok { OnOk result (Wrote (K.written sink.old) (K.written sink.new)
-        (page.old ++ flat_map (item_line config.now) items.now) page.new) }
+    ensures printed { IsPrinted (K.written sink.old) (K.written sink.new)
+        (K.faults sink.old) (K.faults sink.new)
+        (page.old ++ flat_map (item_line config.now) items.now) page.new result }
     ensures typed { OnOk result (AllByRecursion IsTypedItem items.now) }
-    ensures err { OnErr result (WrotePart (K.written sink.old) (K.written sink.new)
-        (page.old ++ flat_map (item_line config.now) items.now)) }
-    ensures fault_only { IsErr result → Rose (K.faults sink.old) (K.faults sink.new) }
-    ensures later { K.faults sink.old ≤ K.faults sink.new }
 {
     'items: for item in items {
         page.make_room(sink)?;
@@ -36,6 +35,7 @@ fn put_items<K: Sink>(
     Ok(())
 }
 
+// Prints the line of the end of each thread.
 fn put_ends<K: Sink>(
     config: &Config,
     ends: &[End],
@@ -44,13 +44,10 @@ fn put_ends<K: Sink>(
 ) -> Result<(), WriteErr>
     requires sound { IsSound config.now }
     requires few { length ends.now ≤ 16 }
-    ensures ok { OnOk result (Wrote (K.written sink.old) (K.written sink.new)
-        (page.old ++ end_lines config.now 0 ends.now) page.new) }
+    ensures printed { IsPrinted (K.written sink.old) (K.written sink.new)
+        (K.faults sink.old) (K.faults sink.new)
+        (page.old ++ end_lines config.now 0 ends.now) page.new result }
     ensures typed { OnOk result (AllByRecursion IsTypedEnd ends.now) }
-    ensures err { OnErr result (WrotePart (K.written sink.old) (K.written sink.new)
-        (page.old ++ end_lines config.now 0 ends.now)) }
-    ensures fault_only { IsErr result → Rose (K.faults sink.old) (K.faults sink.new) }
-    ensures later { K.faults sink.old ≤ K.faults sink.new }
 {
     'ends: for (t, end) in ends.iter().enumerate() {
         page.make_room(sink)?;
@@ -73,8 +70,8 @@ pub fn write_log<K: Sink>(config: &Config, log: &Log, sink: &mut K) -> Result<()
     ensures err { OnErr result (WrotePart (K.written sink.old) (K.written sink.new)
         (text_of config.now log.now)) }
 
-    ensures fault_only { IsErr result → Rose (K.faults sink.old) (K.faults sink.new) }
-    ensures later { K.faults sink.old ≤ K.faults sink.new }
+    // It fails exactly where a write failed, which is counted once.
+    ensures faults { IsCounted (IsErr result) (K.faults sink.old) (K.faults sink.new) }
 {
     let mut page = Page::new();
     put_items(config, log.items.as_slice(), &mut page, sink)?;

@@ -6,7 +6,7 @@ abbrev pub invariant-reads : goal.invariant-reads
 invariant-reads g l = record {
   within : length l.all.items ≤ l.limit;
   so_far : g.S.Source.left l.fn.src ≡ prepend_known l.all.items (g.S.Source.left l.src);
-  later : g.S.Source.faults l.fn.src ≤ g.S.Source.faults l.src;
+  counted : g.S.Source.faults l.src ≡ g.S.Source.faults l.fn.src;
   room : length l.buf ≡ 4096;
 }
 

@@ -1,4 +1,4 @@
-use Rattle.std.proofs.Common.{◌≤◌, ◌++◌, drop, take}
+use Rattle.std.proofs.Common.{◌≡◌, ◌++◌, drop, take}
 use Rattle.std.specs.List.{AllByRecursion}
 use Rattle.flat_model.specs.Text.{end_lines}
 use Rattle.io_edge.specs.Written.{Wrote}
@@ -10,5 +10,5 @@ invariant-ends g l = record {
   so_far : Wrote (g.K.Sink.written l.fn.sink) (g.K.Sink.written l.sink) (l.fn.page ++ end_lines l.fn.config 0 l.fn.ends)
       (l.page ++ end_lines l.fn.config l.t (drop l.t l.ends));
   typed : AllByRecursion IsTypedEnd (take l.t l.ends);
-  later : g.K.Sink.faults l.fn.sink ≤ g.K.Sink.faults l.sink;
+  counted : g.K.Sink.faults l.sink ≡ g.K.Sink.faults l.fn.sink;
 }

@@ -1,4 +1,4 @@
-use Rattle.std.proofs.Common.{◌≤◌, ◌++◌, drop, take}
+use Rattle.std.proofs.Common.{◌≡◌, ◌++◌, drop, take}
 use Rattle.std.specs.List.{AllByRecursion, flat_map}
 use Rattle.flat_model.specs.Text.{item_line}
 use Rattle.io_edge.specs.Written.{Wrote}
@@ -10,5 +10,5 @@ invariant-items g l = record {
   so_far : Wrote (g.K.Sink.written l.fn.sink) (g.K.Sink.written l.sink) (l.fn.page ++ flat_map (item_line l.fn.config) l.fn.items)
       (l.page ++ flat_map (item_line l.fn.config) (drop l.item-index l.items));
   typed : AllByRecursion IsTypedItem (take l.item-index l.items);
-  later : g.K.Sink.faults l.fn.sink ≤ g.K.Sink.faults l.sink;
+  counted : g.K.Sink.faults l.sink ≡ g.K.Sink.faults l.fn.sink;
 }

@@ -10,16 +10,16 @@ use Rattle.run_log.proofs.writing.write_log.Goals as goal
 pub returns-in_err-put_items-clause-err : goal.returns-in_err-put_items-clause-err
 returns-in_err-put_items-clause-err g c =
     on_err c.from_residual.result (wrote_part-first _ _ (flat_map (item_line c.args.config.now) c.args.log.now.items) (end_lines c.args.config.now 0 c.args.log.now.ends)
-    (rw (c.new-page.ensures, c.as_slice.ensures) at c.in_err-put_items.ensures.err))
+    (rw (c.new-page.ensures, c.as_slice.ensures) at c.in_err-put_items.ensures.printed.err))
 
 pub returns-in_err-put_ends-clause-err : goal.returns-in_err-put_ends-clause-err
 returns-in_err-put_ends-clause-err g c =
     on_err c.from_residual-in_err-put_ends.result (wrote-second (flat_map (item_line c.args.config.now) c.args.log.now.items) (end_lines c.args.config.now 0 c.args.log.now.ends) _
-    (rw (c.new-page.ensures, c.as_slice.ensures) at c.in_ok-put_items.ensures.ok) (rw c.as_slice-2.ensures at c.in_err-put_ends.ensures.err))
+    (rw (c.new-page.ensures, c.as_slice.ensures) at c.in_ok-put_items.ensures.printed.ok) (rw c.as_slice-2.ensures at c.in_err-put_ends.ensures.printed.err))
 
 pub returns-clause-err : goal.returns-clause-err
 returns-clause-err g c =
     on_err_weaker c.flush.result (λ part.
     wrote-second (flat_map (item_line c.args.config.now) c.args.log.now.items) (end_lines c.args.config.now 0 c.args.log.now.ends) _
-    (rw (c.new-page.ensures, c.as_slice.ensures) at c.in_ok-put_items.ensures.ok)
-    (wrote-part _ [] (rw append-nil (rw c.as_slice-2.ensures at c.in_ok-put_ends.ensures.ok)) part)) c.flush.ensures.err
+    (rw (c.new-page.ensures, c.as_slice.ensures) at c.in_ok-put_items.ensures.printed.ok)
+    (wrote-part _ [] (rw append-nil (rw c.as_slice-2.ensures at c.in_ok-put_ends.ensures.printed.ok)) part)) c.flush.ensures.err
