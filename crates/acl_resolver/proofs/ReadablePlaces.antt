@@ -21,9 +21,9 @@ use Rattle.flat_model.specs.declared.refusals.Spot.{Spot}
 
 -- what is known of a key of a table, behind other tables
 pub record IsGoodRow (t : Totals) (ms : Members) (row : Row) : Type 0 where
-  pub there : (row.3 && is_none (value_at row.0 ms)) ≡ false
-  pub fit : is_bad row t ms (value_at row.0 ms) ≡ false
-  pub within : is_over row.2 row.0 t ms ≡ false
+  pub there : (row.required && is_none (value_at row.key ms)) ≡ false
+  pub fit : is_bad row t ms (value_at row.key ms) ≡ false
+  pub within : is_over row.limit row.key t ms ≡ false
 
 -- what is known of each key of a kind of table
 abbrev pub IsGoodTable : Totals → Form → Members → Type 0

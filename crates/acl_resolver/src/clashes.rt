@@ -41,10 +41,8 @@ fn first_overlap(grants: &[GrantText]) -> Option<u32>
 fn self_overlap_of(i: u32, part: &BoxText) -> Option<Refused>
     ensures { result ≡ self_overlap_of i part.now }
 {
-    match first_overlap(part.grants.as_slice()) {
-        Some(grant) => Some(Refused::SelfOverlap { at_box: i, grant }),
-        None => None,
-    }
+    let grant = first_overlap(part.grants.as_slice())?;
+    Some(Refused::SelfOverlap { at_box: i, grant })
 }
 
 /// A grant that overlaps an earlier one of its box.
@@ -94,10 +92,8 @@ fn clashing_box(grant: GrantText, earlier: &[BoxText]) -> Option<u32>
 fn clash_at(earlier: &[BoxText], i: u32, grant: GrantText) -> Option<Refused>
     ensures { result ≡ clash_at earlier.now i grant }
 {
-    match clashing_box(grant, earlier) {
-        Some(first) => Some(Refused::Clash { first, second: i }),
-        None => None,
-    }
+    let first = clashing_box(grant, earlier)?;
+    Some(Refused::Clash { first, second: i })
 }
 
 // The first grant of a box that clashes with an earlier box, and the least of them.

@@ -32,20 +32,14 @@ fn range_at_multiple(base: u32, len: u32) -> Option<Range>
 fn rounded_up(base: u32, len: u32) -> Option<Range>
     ensures { result ≡ rounded_by Round.Up base len }
 {
-    match round_up(len) {
-        Some(len) => range_at_multiple(base, len),
-        None => None,
-    }
+    range_at_multiple(base, round_up(len)?)
 }
 
 // The range whose length is rounded down, where its base is a multiple of it.
 fn rounded_down(base: u32, len: u32) -> Option<Range>
     ensures { result ≡ rounded_by Round.Down base len }
 {
-    match round_down(len) {
-        Some(len) => range_at_multiple(base, len),
-        None => None,
-    }
+    range_at_multiple(base, round_down(len)?)
 }
 
 /// The range of a grant once it is rounded, where its rule lets it be.

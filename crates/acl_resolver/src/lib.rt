@@ -38,11 +38,14 @@ pub fn resolve_texts(
     devices: Vec<DevicePart>,
     script: &[&str],
 ) -> Result<Config, ConfigErr>
-    requires { IsResolvable (parts_of board boxes.items gates devices.items (map (λ text. text.now) script.now)) }
+    requires { let texts = map (λ text. text.now) script.now in
+        IsResolvable (parts_of board boxes.items gates devices.items texts) }
 
-    ensures ok { let parts = parts_of board boxes.items gates devices.items (map (λ text. text.now) script.now) in
+    ensures ok { let texts = map (λ text. text.now) script.now in
+        let parts = parts_of board boxes.items gates devices.items texts in
         IfOk result (λ cfg. resolution_of parts ≡ Ok cfg) }
-    ensures err { let parts = parts_of board boxes.items gates devices.items (map (λ text. text.now) script.now) in
+    ensures err { let texts = map (λ text. text.now) script.now in
+        let parts = parts_of board boxes.items gates devices.items texts in
         IfErr result (IsCause (resolution_of parts)) }
     ensures sound { IfOk result IsSound }
 {
@@ -67,7 +70,8 @@ pub fn resolve_texts(
 
 // The strings, lent.
 fn lent_texts(alloc: Global, strings: &[String]) -> Result<Vec<&str>, AllocError>
-    ensures { IfOk result (λ texts. map (λ text. text.now) texts.items ≡ map string_bytes strings.now) }
+    ensures { IfOk result
+        (λ texts. map (λ text. text.now) texts.items ≡ map string_bytes strings.now) }
 {
     let mut texts = Vec::with_capacity(alloc, strings.len())?;
     for string in strings {
@@ -85,11 +89,14 @@ pub fn resolve(
     devices: Vec<DevicePart>,
     script: Vec<String>,
 ) -> Result<Config, ConfigErr>
-    requires { IsResolvable (parts_of board boxes.items gates devices.items (map string_bytes script.items)) }
+    requires { let texts = map string_bytes script.items in
+        IsResolvable (parts_of board boxes.items gates devices.items texts) }
 
-    ensures ok { let parts = parts_of board boxes.items gates devices.items (map string_bytes script.items) in
+    ensures ok { let texts = map string_bytes script.items in
+        let parts = parts_of board boxes.items gates devices.items texts in
         IfOk result (λ cfg. resolution_of parts ≡ Ok cfg) }
-    ensures err { let parts = parts_of board boxes.items gates devices.items (map string_bytes script.items) in
+    ensures err { let texts = map string_bytes script.items in
+        let parts = parts_of board boxes.items gates devices.items texts in
         IfErr result (IsCause (resolution_of parts)) }
     ensures sound { IfOk result IsSound }
 {

@@ -63,10 +63,8 @@ fn first_taken(earlier: &[BoxText], irqs: &[IrqPart]) -> Option<u32>
 fn line_taken_of(earlier: &[BoxText], i: u32, part: &BoxText) -> Option<Refused>
     ensures { result ≡ line_taken_of earlier.now i part.now }
 {
-    match first_taken(earlier, part.irqs.as_slice()) {
-        Some(irq) => Some(Refused::LineTaken { at_box: i, irq }),
-        None => None,
-    }
+    let irq = first_taken(earlier, part.irqs.as_slice())?;
+    Some(Refused::LineTaken { at_box: i, irq })
 }
 
 /// A line that was named earlier, in this or another box.

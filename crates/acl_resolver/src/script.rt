@@ -82,10 +82,7 @@ fn push_word(words: &mut Vec<ScriptWord>, word: ScriptWord) -> Result<(), Config
     ensures ok { OnOk result (words.new.items ≡ words.old.items ++ word ∷ []) }
     ensures err { IfErr result (λ e. e ≡ ConfigErr.Memory) }
 {
-    match words.push(word) {
-        Ok(()) => Ok(()),
-        Err(_) => Err(ConfigErr::Memory),
-    }
+    words.push(word).map_err(|_| ConfigErr::Memory)
 }
 
 /// What the words of a script stand for, where each is one of those in the table.

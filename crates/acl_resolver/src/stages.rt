@@ -97,9 +97,12 @@ fn script_words_of(
     script: &[&str],
 ) -> Result<Vec<ScriptWord>, ConfigErr>
     requires { threads_of boxes.now ≤ 16 }
-    ensures none { OnOk result (words_refusal boxes.now devices.now (map (λ text. text.now) script.now) ≡ None) }
-    ensures ok { IfOk result (λ v. v.items ≡ words_of boxes.now (map (λ text. text.now) script.now)) }
-    ensures err { IfErr result (IsDue (words_refusal boxes.now devices.now (map (λ text. text.now) script.now))) }
+    ensures none { let texts = map (λ text. text.now) script.now in
+        OnOk result (words_refusal boxes.now devices.now texts ≡ None) }
+    ensures ok { let texts = map (λ text. text.now) script.now in
+        IfOk result (λ v. v.items ≡ words_of boxes.now texts) }
+    ensures err { let texts = map (λ text. text.now) script.now in
+        IfErr result (IsDue (words_refusal boxes.now devices.now texts)) }
 {
     if let Some(refused) = bad_device(boxes, devices) {
         return Err(ConfigErr::Refused(refused));
@@ -124,10 +127,13 @@ pub fn scripted(
 ) -> Result<Programmed, ConfigErr>
     requires few_boxes { length boxes.now ≤ 8 }
     requires few_threads { threads_of boxes.now ≤ 16 }
-    ensures none { OnOk result (running_refusal boxes.now devices.now (map (λ text. text.now) script.now) ≡ None) }
+    ensures none { let texts = map (λ text. text.now) script.now in
+        OnOk result (running_refusal boxes.now devices.now texts ≡ None) }
     ensures threads { IfOk result (λ made. made.threads.items ≡ thread_parts 0 boxes.now) }
-    ensures script { IfOk result (λ made. made.script.items ≡ words_of boxes.now (map (λ text. text.now) script.now)) }
-    ensures err { IfErr result (IsDue (running_refusal boxes.now devices.now (map (λ text. text.now) script.now))) }
+    ensures script { let texts = map (λ text. text.now) script.now in
+        IfOk result (λ made. made.script.items ≡ words_of boxes.now texts) }
+    ensures err { let texts = map (λ text. text.now) script.now in
+        IfErr result (IsDue (running_refusal boxes.now devices.now texts)) }
 {
     let threads = thread_parts(alloc, boxes)?;
     let script = script_words_of(alloc, boxes, devices, script)?;

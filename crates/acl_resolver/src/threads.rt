@@ -41,10 +41,7 @@ fn push_thread(parts: &mut Vec<ThreadPart>, part: ThreadPart) -> Result<(), Conf
     ensures ok { OnOk result (parts.new.items ≡ parts.old.items ++ part ∷ []) }
     ensures err { IfErr result (λ e. e ≡ ConfigErr.Memory) }
 {
-    match parts.push(part) {
-        Ok(()) => Ok(()),
-        Err(_) => Err(ConfigErr::Memory),
-    }
+    parts.push(part).map_err(|_| ConfigErr::Memory)
 }
 
 // Puts the threads of box i behind others.
@@ -56,7 +53,8 @@ fn push_threads(
 ) -> Result<(), ConfigErr>
     requires { i < 8 }
     ensures none { OnOk result (first_numbered (bad_program_at (number i)) 0 threads.now ≡ None) }
-    ensures ok { OnOk result (parts.new.items ≡ parts.old.items ++ map (thread_part i) threads.now) }
+    ensures ok { OnOk result
+        (parts.new.items ≡ parts.old.items ++ map (thread_part i) threads.now) }
     ensures err { IfErr result (IsDue (first_numbered (bad_program_at (number i)) 0 threads.now)) }
 {
     for (j, thread) in threads.iter().enumerate() {

@@ -27,7 +27,8 @@ fn push_thread_words(
     table: &mut Vec<Spelled>,
 ) -> Result<(), AllocError>
     requires { t + length threads.now ≤ 16 }
-    ensures { OnOk result (table.new.items ≡ table.old.items ++ thread_words name.now 0 t threads.now) }
+    ensures { OnOk result
+        (table.new.items ≡ table.old.items ++ thread_words name.now 0 t threads.now) }
 {
     for (k, _) in threads.iter().enumerate() {
         let word = thread_word(alloc, name, k, (t + k) as u8)?;

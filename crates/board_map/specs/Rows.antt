@@ -16,11 +16,11 @@ use Rattle.board_map.specs.declared.rows.Row.{Row}
 
 -- a key that has to be there
 abbrev pub required : Key → Rule → Limit → Row
-required k r l = record { 0 = k; 1 = r; 2 = l; 3 = true }
+required k r l = record { key = k; rule = r; limit = l; required = true }
 
 -- a key that may be left out
 abbrev pub optional : Key → Rule → Limit → Row
-optional k r l = record { 0 = k; 1 = r; 2 = l; 3 = false }
+optional k r l = record { key = k; rule = r; limit = l; required = false }
 
 -- an integer from 0 to 4294967295
 abbrev pub a_word : Rule

@@ -95,7 +95,7 @@ places doc =
 
 -- a row has this key
 abbrev pub is_known : List Row → List ℕ → Bool
-is_known rows name = list_any (λ row. bytes_eq (key_name row.0) name) rows
+is_known rows name = list_any (λ row. bytes_eq (key_name row.key) name) rows
 
 -- some key of the table is in no row
 abbrev pub has_unknown : List Row → Members → Bool
@@ -105,14 +105,14 @@ has_unknown rows (member name d ms) = not (is_known rows name) || has_unknown ro
 -- the value is there and breaks its rule
 abbrev pub is_bad : Row → Totals → Members → Option Data → Bool
 is_bad row t ms None = false
-is_bad row t ms (Some d) = not (fits row.1 t ms d)
+is_bad row t ms (Some d) = not (fits row.rule t ms d)
 
 -- what a pass refuses of one key of the table at a spot; unknown keys are refused a table at a time
 abbrev pub row_refusal : Pass → Totals → Spot → Members → Row → Option Refused
 row_refusal pass.Unknown t s ms row = None
-row_refusal pass.Missing t s ms row = refuse_if (row.3 && is_none (value_at row.0 ms)) (refused.MissingKey s row.0)
-row_refusal pass.Bad t s ms row = refuse_if (is_bad row t ms (value_at row.0 ms)) (refused.BadValue s row.0)
-row_refusal pass.Many t s ms row = refuse_if (is_over row.2 row.0 t ms) (refused.TooMany s row.0)
+row_refusal pass.Missing t s ms row = refuse_if (row.required && is_none (value_at row.key ms)) (refused.MissingKey s row.key)
+row_refusal pass.Bad t s ms row = refuse_if (is_bad row t ms (value_at row.key ms)) (refused.BadValue s row.key)
+row_refusal pass.Many t s ms row = refuse_if (is_over row.limit row.key t ms) (refused.TooMany s row.key)
 
 -- what a pass refuses of the table at a spot, whose rows are these
 abbrev pub table_refusal : Pass → Totals → Spot → Members → List Row → Option Refused

@@ -82,7 +82,8 @@ fn board_of(alloc: Global, table: &Table) -> Result<Board, AllocError>
 
 // The board of a document, good or not.
 fn written_board(alloc: Global, document: &Table) -> Result<Board, AllocError>
-    ensures { IfOk result (λ board. board ≡ board_of (members_or_none (table_at key.Board (table_view document.now)))) }
+    ensures { let table = members_or_none (table_at key.Board (table_view document.now)) in
+        IfOk result (λ board. board ≡ board_of table) }
 {
     match table_at(document, Key::Board) {
         Some(table) => board_of(alloc, table),

@@ -64,46 +64,50 @@ fn is_long(items: &[Value]) -> bool
     items.len() > 250000 || ring_words(items) > 10000
 }
 
-/// Whether the list or sum at a key passes its limit, in a table behind others.
-#[tactic(auto, unfolding(crate::specs::Values::is_over))]
-pub fn is_over(limit: Limit, key: Key, totals: Totals, table: &Table) -> bool
-    ensures { result ≡ is_over limit key totals (table_view table.now) }
-{
-    let items = array_at(table, key);
-    match limit {
-        Limit::Free => false,
-        Limit::Items(most) => are_more(items, most),
-        Limit::Script => is_long(items),
-        Limit::Threads => sum(totals.threads, count(items)) > 16,
-        Limit::Steps => sum(totals.steps, steps_of(table)) > 250000,
-        Limit::Rings => sum(totals.rings, count(items)) > 10000,
+impl Limit {
+    /// Whether the list or sum at a key passes the limit, in a table behind others.
+    #[tactic(auto, unfolding(crate::specs::Values::is_over))]
+    pub fn is_over(self, key: Key, totals: Totals, table: &Table) -> bool
+        ensures { result ≡ is_over self key totals (table_view table.now) }
+    {
+        let items = array_at(table, key);
+        match self {
+            Limit::Free => false,
+            Limit::Items(most) => are_more(items, most),
+            Limit::Script => is_long(items),
+            Limit::Threads => sum(totals.threads, count(items)) > 16,
+            Limit::Steps => sum(totals.steps, steps_of(table)) > 250000,
+            Limit::Rings => sum(totals.rings, count(items)) > 10000,
+        }
     }
 }
 
-/// What the tables say up to one more.
-#[tactic(auto, unfolding(crate::specs::Values::after))]
-pub fn after(form: Form, table: &Table, totals: Totals) -> Totals
-    ensures { result ≡ after form (table_view table.now) totals }
-{
-    match form {
-        Form::Board => Totals {
-            secret_free: value_at(table, Key::Secret).is_some(),
-            ..totals
-        },
-        Form::AtBox => Totals {
-            secret_free: totals.secret_free && !owns(table),
-            threads: sum(totals.threads, count(array_at(table, Key::Thread))),
-            ..totals
-        },
-        Form::Thread => Totals {
-            steps: sum(totals.steps, steps_of(table)),
-            ..totals
-        },
-        Form::Device => Totals {
-            rings: sum(totals.rings, count(array_at(table, Key::Rings))),
-            ..totals
-        },
-        _ => totals,
+impl Totals {
+    /// What the tables say up to one more.
+    #[tactic(auto, unfolding(crate::specs::Values::after))]
+    pub fn after(self, form: Form, table: &Table) -> Totals
+        ensures { result ≡ after form (table_view table.now) self }
+    {
+        match form {
+            Form::Board => Totals {
+                secret_free: value_at(table, Key::Secret).is_some(),
+                ..self
+            },
+            Form::AtBox => Totals {
+                secret_free: self.secret_free && !owns(table),
+                threads: sum(self.threads, count(array_at(table, Key::Thread))),
+                ..self
+            },
+            Form::Thread => Totals {
+                steps: sum(self.steps, steps_of(table)),
+                ..self
+            },
+            Form::Device => Totals {
+                rings: sum(self.rings, count(array_at(table, Key::Rings))),
+                ..self
+            },
+            _ => self,
+        }
     }
 }
 

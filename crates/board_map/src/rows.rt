@@ -1,8 +1,9 @@
 ghost use Rattle.std.specs.Prelude.{◌≡◌};
 ghost use Rattle.board_map.specs.Keys.{key_name};
 ghost use Rattle.board_map.specs.Rows.{rows_of};
+ghost use Rattle.board_map.specs.Shape.{array_key, spot_in};
 
-use flat_model::Key;
+use flat_model::{Key, Spot};
 
 /// A version of the document's format.
 #[derive(Clone, Copy, PartialEq, Eq, Debug)]
@@ -68,9 +69,28 @@ pub enum Limit {
     Rings,
 }
 
-/// One key of a table: its rule, its limit, and whether it has to be there.
+/// One key of a table: what its value has to be, what bounds it, and whether it has to be there.
 #[derive(Clone, Copy, PartialEq, Eq, Debug)]
-pub struct Row(pub Key, pub Rule, pub Limit, pub bool);
+pub struct Row {
+    pub key: Key,
+    pub rule: Rule,
+    pub limit: Limit,
+    pub required: bool,
+}
+
+// The row of a key that has to be there.
+macro_rules! required {
+    ($key:ident, $rule:expr, $limit:expr) => {
+        Row { key: Key::$key, rule: $rule, limit: $limit, required: true }
+    };
+}
+
+// The row of a key that may be left out.
+macro_rules! optional {
+    ($key:ident, $rule:expr, $limit:expr) => {
+        Row { key: Key::$key, rule: $rule, limit: $limit, required: false }
+    };
+}
 
 const WORD: Rule = Rule::Integer(0, 4294967295);
 
@@ -81,99 +101,124 @@ const SOME_TABLES: Rule = Rule::Array(Each::Table, true);
 const TEXTS: Rule = Rule::Array(Each::Text, false);
 
 static TOP: [Row; 7] = [
-    Row(Key::Format, Rule::Integer(1, 1), Limit::Free, true),
-    Row(Key::Board, Rule::Table, Limit::Free, true),
-    Row(Key::AtBox, SOME_TABLES, Limit::Items(8), true),
-    Row(Key::Register, TABLES, Limit::Items(32), false),
-    Row(Key::Gateway, TABLES, Limit::Items(32), false),
-    Row(Key::Device, TABLES, Limit::Items(4), false),
-    Row(Key::Script, TEXTS, Limit::Script, false),
+    required!(Format, Rule::Integer(1, 1), Limit::Free),
+    required!(Board, Rule::Table, Limit::Free),
+    required!(AtBox, SOME_TABLES, Limit::Items(8)),
+    optional!(Register, TABLES, Limit::Items(32)),
+    optional!(Gateway, TABLES, Limit::Items(32)),
+    optional!(Device, TABLES, Limit::Items(4)),
+    optional!(Script, TEXTS, Limit::Script),
 ];
 
 static BOARD: [Row; 6] = [
-    Row(Key::Flash, Rule::Pair, Limit::Free, true),
-    Row(Key::Sram, Rule::Pair, Limit::Free, true),
-    Row(Key::Peripherals, Rule::Pair, Limit::Free, true),
-    Row(Key::Secret, Rule::Pair, Limit::Free, false),
-    Row(
-        Key::Words,
-        Rule::Array(Each::Pair, false),
-        Limit::Items(64),
-        false,
-    ),
-    Row(Key::Heap, Rule::Table, Limit::Free, false),
+    required!(Flash, Rule::Pair, Limit::Free),
+    required!(Sram, Rule::Pair, Limit::Free),
+    required!(Peripherals, Rule::Pair, Limit::Free),
+    optional!(Secret, Rule::Pair, Limit::Free),
+    optional!(Words, Rule::Array(Each::Pair, false), Limit::Items(64)),
+    optional!(Heap, Rule::Table, Limit::Free),
 ];
 
 static HEAP: [Row; 3] = [
-    Row(Key::Base, WORD, Limit::Free, true),
-    Row(Key::Page, WORD, Limit::Free, true),
-    Row(Key::Count, WORD, Limit::Free, true),
+    required!(Base, WORD, Limit::Free),
+    required!(Page, WORD, Limit::Free),
+    required!(Count, WORD, Limit::Free),
 ];
 
 static AT_BOX: [Row; 7] = [
-    Row(Key::Name, Rule::Text, Limit::Free, true),
-    Row(Key::Size, Rule::Integer(1, 1048576), Limit::Free, true),
-    Row(Key::Secret, Rule::Owner, Limit::Free, false),
-    Row(Key::Server, Rule::Server, Limit::Free, false),
-    Row(Key::Thread, SOME_TABLES, Limit::Threads, true),
-    Row(Key::Grant, TABLES, Limit::Items(64), false),
-    Row(Key::Irq, TABLES, Limit::Items(64), false),
+    required!(Name, Rule::Text, Limit::Free),
+    required!(Size, Rule::Integer(1, 1048576), Limit::Free),
+    optional!(Secret, Rule::Owner, Limit::Free),
+    optional!(Server, Rule::Server, Limit::Free),
+    required!(Thread, SOME_TABLES, Limit::Threads),
+    optional!(Grant, TABLES, Limit::Items(64)),
+    optional!(Irq, TABLES, Limit::Items(64)),
 ];
 
 static THREAD: [Row; 2] = [
-    Row(Key::Program, Rule::Text, Limit::Free, true),
-    Row(Key::Steps, Rule::Integer(1, 100000), Limit::Steps, false),
+    required!(Program, Rule::Text, Limit::Free),
+    optional!(Steps, Rule::Integer(1, 100000), Limit::Steps),
 ];
 
 static GRANT: [Row; 5] = [
-    Row(Key::Base, WORD, Limit::Free, true),
-    Row(Key::Len, WORD, Limit::Free, true),
-    Row(Key::Rights, Rule::Word(Choice::Rights), Limit::Free, true),
-    Row(Key::Round, Rule::Word(Choice::Round), Limit::Free, false),
-    Row(Key::Shared, Rule::Flag, Limit::Free, false),
+    required!(Base, WORD, Limit::Free),
+    required!(Len, WORD, Limit::Free),
+    required!(Rights, Rule::Word(Choice::Rights), Limit::Free),
+    optional!(Round, Rule::Word(Choice::Round), Limit::Free),
+    optional!(Shared, Rule::Flag, Limit::Free),
 ];
 
 static IRQ: [Row; 2] = [
-    Row(Key::Line, Rule::Integer(0, 63), Limit::Free, true),
-    Row(Key::Handler, Rule::Integer(0, 65535), Limit::Free, true),
+    required!(Line, Rule::Integer(0, 63), Limit::Free),
+    required!(Handler, Rule::Integer(0, 65535), Limit::Free),
 ];
 
 static REGISTER: [Row; 4] = [
-    Row(Key::At, WORD, Limit::Free, true),
-    Row(Key::Op, Rule::Word(Choice::Op), Limit::Free, true),
-    Row(Key::Mask, WORD, Limit::Free, false),
-    Row(Key::Boxes, TEXTS, Limit::Items(8), true),
+    required!(At, WORD, Limit::Free),
+    required!(Op, Rule::Word(Choice::Op), Limit::Free),
+    optional!(Mask, WORD, Limit::Free),
+    required!(Boxes, TEXTS, Limit::Items(8)),
 ];
 
 static GATEWAY: [Row; 3] = [
-    Row(Key::AtBox, Rule::Text, Limit::Free, true),
-    Row(Key::Function, WORD, Limit::Free, true),
-    Row(Key::Callers, TEXTS, Limit::Items(8), true),
+    required!(AtBox, Rule::Text, Limit::Free),
+    required!(Function, WORD, Limit::Free),
+    required!(Callers, TEXTS, Limit::Items(8)),
 ];
 
-static DEVICE: [Row; 1] = [Row(
-    Key::Rings,
-    Rule::Array(Each::Line, false),
-    Limit::Rings,
-    true,
-)];
+static DEVICE: [Row; 1] = [required!(Rings, Rule::Array(Each::Line, false), Limit::Rings)];
 
-/// The keys of a kind of table, in their order.
-#[tactic(auto, unfolding(crate::specs::Rows::rows_of))]
-pub fn rows(format: Format, form: Form) -> &'static [Row]
-    ensures { result.now ≡ rows_of format form }
-{
-    match (format, form) {
-        (Format::One, Form::Top) => &TOP,
-        (Format::One, Form::Board) => &BOARD,
-        (Format::One, Form::Heap) => &HEAP,
-        (Format::One, Form::AtBox) => &AT_BOX,
-        (Format::One, Form::Thread) => &THREAD,
-        (Format::One, Form::Grant) => &GRANT,
-        (Format::One, Form::Irq) => &IRQ,
-        (Format::One, Form::Register) => &REGISTER,
-        (Format::One, Form::Gateway) => &GATEWAY,
-        (Format::One, Form::Device) => &DEVICE,
+impl Form {
+    /// The keys of a kind of table, in their order.
+    #[tactic(auto, unfolding(crate::specs::Rows::rows_of))]
+    pub fn rows(self, format: Format) -> &'static [Row]
+        ensures { result.now ≡ rows_of format self }
+    {
+        match (format, self) {
+            (Format::One, Form::Top) => &TOP,
+            (Format::One, Form::Board) => &BOARD,
+            (Format::One, Form::Heap) => &HEAP,
+            (Format::One, Form::AtBox) => &AT_BOX,
+            (Format::One, Form::Thread) => &THREAD,
+            (Format::One, Form::Grant) => &GRANT,
+            (Format::One, Form::Irq) => &IRQ,
+            (Format::One, Form::Register) => &REGISTER,
+            (Format::One, Form::Gateway) => &GATEWAY,
+            (Format::One, Form::Device) => &DEVICE,
+        }
+    }
+
+    /// The key whose array has the tables of the kind.
+    pub fn array_key(self) -> Key
+        ensures { result ≡ array_key self }
+    {
+        match self {
+            Form::Thread => Key::Thread,
+            Form::Grant => Key::Grant,
+            Form::Irq => Key::Irq,
+            Form::Register => Key::Register,
+            Form::Gateway => Key::Gateway,
+            Form::Device => Key::Device,
+            _ => Key::AtBox,
+        }
+    }
+
+    /// Where a table of an array of the kind stands, by its box and its place in the array.
+    pub fn spot(self, at_box: u32, i: u32) -> Spot
+        ensures { result ≡ spot_in self at_box i }
+    {
+        match self {
+            Form::Top => Spot::Top,
+            Form::Board => Spot::Board,
+            Form::Heap => Spot::Heap,
+            Form::AtBox => Spot::AtBox(i),
+            Form::Thread => Spot::Thread(at_box, i),
+            Form::Grant => Spot::Grant(at_box, i),
+            Form::Irq => Spot::Irq(at_box, i),
+            Form::Register => Spot::Register(i),
+            Form::Gateway => Spot::Gateway(i),
+            Form::Device => Spot::Device(i),
+        }
     }
 }
 

@@ -20,12 +20,14 @@ fn is_block(range: &Range, low: u32, high: u32) -> bool
     is_power_between(range.len, low, high) && range.base % range.len == 0
 }
 
+// Whether the range ends where the private peripherals begin, or before.
 fn ends_in_reach(range: &Range) -> bool
     ensures { result ≡ ends_in_reach range.now }
 {
     range.end() <= 0xE000_0000
 }
 
+// Whether the range can be flash.
 fn is_flash(flash: &Range) -> bool
     ensures { result ≡ is_flash flash.now }
 {
@@ -40,18 +42,21 @@ fn is_bank(bank: &Range) -> bool
     is_tiled && 32 <= bank.len && bank.len <= 1048576 && ends_in_reach(bank)
 }
 
+// Whether the range can be SRAM beside this flash.
 fn is_sram(flash: &Range, sram: &Range) -> bool
     ensures { result ≡ is_sram flash.now sram.now }
 {
     is_bank(sram) && !sram.overlaps(flash)
 }
 
+// Whether the range can be that of the peripherals beside flash and SRAM.
 fn are_peripherals(flash: &Range, sram: &Range, bank: &Range) -> bool
     ensures { result ≡ are_peripherals flash.now sram.now bank.now }
 {
     is_bank(bank) && !bank.overlaps(flash) && !bank.overlaps(sram)
 }
 
+// Whether the secret range, if there is one, can be a part of this flash.
 fn is_secret(flash: &Range, secret: Option<Range>) -> bool
     ensures { result ≡ is_secret flash.now secret }
 {
@@ -94,12 +99,14 @@ fn are_apart(words: &[Word]) -> bool
     true
 }
 
+// Whether the initial words each have their place, and no two the same.
 fn are_words(flash: &Range, bank: &Range, words: &[Word]) -> bool
     ensures { result ≡ are_words flash.now bank.now words.now }
 {
     all_placed(flash, bank, words) && are_apart(words)
 }
 
+// Whether the heap, if there is one, can be a part of this SRAM.
 fn is_heap(sram: &Range, heap: Option<HeapPart>) -> bool
     ensures { result ≡ is_heap sram.now heap }
 {

@@ -19,20 +19,14 @@ pub fn value_at<'a>(table: &'a Table, key: Key) -> Option<&'a Value>
 pub fn natural(value: &Value) -> Option<u64>
     ensures { result ≡ natural_of (view value.now) }
 {
-    match value.as_integer() {
-        Some(n) => u64::try_from(n).ok(),
-        None => None,
-    }
+    u64::try_from(value.as_integer()?).ok()
 }
 
 /// The elements of an array.
 pub fn array(value: &Value) -> Option<&[Value]>
     ensures { option_map (λ s. items_view s.now) result ≡ as_array (view value.now) }
 {
-    match value.as_array() {
-        Some(items) => Some(items.as_slice()),
-        None => None,
-    }
+    Some(value.as_array()?.as_slice())
 }
 
 /// The elements of an array; none where the value is no array.
@@ -74,30 +68,21 @@ pub fn array_at<'a>(table: &'a Table, key: Key) -> &'a [Value]
 pub fn table_at<'a>(table: &'a Table, key: Key) -> Option<&'a Table>
     ensures { option_map (λ m. table_view m.now) result ≡ table_at key (table_view table.now) }
 {
-    match value_at(table, key) {
-        Some(value) => value.as_table(),
-        None => None,
-    }
+    value_at(table, key)?.as_table()
 }
 
 /// The text at a key.
 pub fn text_at<'a>(table: &'a Table, key: Key) -> Option<&'a str>
     ensures { option_copied result ≡ text_at key (table_view table.now) }
 {
-    match value_at(table, key) {
-        Some(value) => value.as_str(),
-        None => None,
-    }
+    value_at(table, key)?.as_str()
 }
 
 /// The boolean at a key.
 pub fn flag_at(table: &Table, key: Key) -> Option<bool>
     ensures { result ≡ flag_at key (table_view table.now) }
 {
-    match value_at(table, key) {
-        Some(value) => value.as_bool(),
-        None => None,
-    }
+    value_at(table, key)?.as_bool()
 }
 
 /// The number, where it is from `low` to `high`, or else the default.

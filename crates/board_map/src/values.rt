@@ -8,7 +8,6 @@ ghost use Rattle.board_map.specs.Tree.{natural_of, value_at};
 use crate::rows::{Choice, Each, Form, Limit, Rule};
 use crate::totals::Totals;
 use crate::tree::{array, array_at, count, flag_at, integer_at, natural, value_at};
-use crate::words::is_word;
 use flat_model::Key;
 use toml::{Table, Value};
 
@@ -52,58 +51,62 @@ fn is_pair(value: &Value) -> bool
     }
 }
 
-// Whether an element is what each has to be.
-fn fits_each(each: Each, value: &Value) -> bool
-    ensures { result ≡ fits_each each (view value.now) }
-{
-    match each {
-        Each::Pair => is_pair(value),
-        Each::Table => value.is_table(),
-        Each::Text => value.is_str(),
-        Each::Line => is_between(value, 0, 63),
-    }
-}
-
-// Whether each element is what it has to be.
-fn all_fit(each: Each, items: &[Value]) -> bool
-    ensures { result ≡ all_fit each (items_view items.now) }
-{
-    for item in items {
-        if !fits_each(each, item) {
-            return false;
+impl Each {
+    // Whether an element is what each has to be.
+    fn fits(self, value: &Value) -> bool
+        ensures { result ≡ fits_each self (view value.now) }
+    {
+        match self {
+            Each::Pair => is_pair(value),
+            Each::Table => value.is_table(),
+            Each::Text => value.is_str(),
+            Each::Line => is_between(value, 0, 63),
         }
     }
-    true
-}
 
-// Whether the elements are what they have to be, with one at least where `some` asks for it.
-#[tactic(auto, using(crate::proofs::Trees::count_of_items))]
-fn are_all(each: Each, some: bool, items: &[Value]) -> bool
-    ensures { result ≡ are_all each some (items_view items.now) }
-{
-    if some && items.len() == 0 {
-        return false;
+    // Whether each element is what it has to be.
+    fn all_fit(self, items: &[Value]) -> bool
+        ensures { result ≡ all_fit self (items_view items.now) }
+    {
+        for item in items {
+            if !self.fits(item) {
+                return false;
+            }
+        }
+        true
     }
-    all_fit(each, items)
-}
 
-// Whether the value is an array of such elements.
-fn is_array(each: Each, some: bool, value: &Value) -> bool
-    ensures { result ≡ in_array (are_all each some) (as_array (view value.now)) }
-{
-    match array(value) {
-        Some(items) => are_all(each, some, items),
-        None => false,
+    // Whether the elements are what they have to be, with one at least where `some` asks for it.
+    #[tactic(auto, using(crate::proofs::Trees::count_of_items))]
+    fn are_all(self, some: bool, items: &[Value]) -> bool
+        ensures { result ≡ are_all self some (items_view items.now) }
+    {
+        if some && items.len() == 0 {
+            return false;
+        }
+        self.all_fit(items)
+    }
+
+    // Whether the value is an array of such elements.
+    fn is_array(self, some: bool, value: &Value) -> bool
+        ensures { result ≡ in_array (are_all self some) (as_array (view value.now)) }
+    {
+        match array(value) {
+            Some(items) => self.are_all(some, items),
+            None => false,
+        }
     }
 }
 
-// Whether the value is one of the words.
-fn is_choice(choice: Choice, value: &Value) -> bool
-    ensures { result ≡ is_choice choice (as_str (view value.now)) }
-{
-    match value.as_str() {
-        Some(text) => is_word(choice, text),
-        None => false,
+impl Choice {
+    // Whether the value is one of the words of the choice.
+    fn is_word_of(self, value: &Value) -> bool
+        ensures { result ≡ is_choice self (as_str (view value.now)) }
+    {
+        match value.as_str() {
+            Some(text) => self.is_word(text),
+            None => false,
+        }
     }
 }
 
@@ -119,18 +122,17 @@ fn may_own(secret_free: bool, value: &Value) -> bool
 
 // The elements of the array at a key, where the value there is an array.
 fn array_of<'a>(table: &'a Table, key: Key) -> Option<&'a [Value]>
-    ensures { option_map (λ s. items_view s.now) result ≡ option_and_then as_array (value_at key (table_view table.now)) }
+    ensures { option_map (λ s. items_view s.now) result
+        ≡ option_and_then as_array (value_at key (table_view table.now)) }
 {
-    match value_at(table, key) {
-        Some(value) => array(value),
-        None => None,
-    }
+    array(value_at(table, key)?)
 }
 
 // Whether the value is the place of a thread, where the threads are an array.
 #[tactic(auto, using(crate::proofs::Trees::count_of_items))]
 fn is_place(table: &Table, value: &Value) -> bool
-    ensures { result ≡ is_place (option_and_then as_array (value_at key.Thread (table_view table.now))) (natural_of (view value.now)) }
+    ensures { let threads = option_and_then as_array (value_at key.Thread (table_view table.now)) in
+        result ≡ is_place threads (natural_of (view value.now)) }
 {
     match natural(value) {
         Some(n) => match array_of(table, Key::Thread) {
@@ -141,20 +143,22 @@ fn is_place(table: &Table, value: &Value) -> bool
     }
 }
 
-/// Whether a value meets the rule of its key, in a table behind others.
-#[tactic(auto, unfolding(crate::specs::Values::fits))]
-pub fn fits(rule: Rule, totals: Totals, table: &Table, value: &Value) -> bool
-    ensures { result ≡ fits rule totals (table_view table.now) (view value.now) }
-{
-    match rule {
-        Rule::Integer(low, high) => is_between(value, low, high),
-        Rule::Text => value.is_str(),
-        Rule::Flag => value.is_bool(),
-        Rule::Word(choice) => is_choice(choice, value),
-        Rule::Pair => is_pair(value),
-        Rule::Table => value.is_table(),
-        Rule::Array(each, some) => is_array(each, some, value),
-        Rule::Owner => may_own(totals.secret_free, value),
-        Rule::Server => is_place(table, value),
+impl Rule {
+    /// Whether a value meets the rule, in a table behind others.
+    #[tactic(auto, unfolding(crate::specs::Values::fits))]
+    pub fn fits(self, totals: Totals, table: &Table, value: &Value) -> bool
+        ensures { result ≡ fits self totals (table_view table.now) (view value.now) }
+    {
+        match self {
+            Rule::Integer(low, high) => is_between(value, low, high),
+            Rule::Text => value.is_str(),
+            Rule::Flag => value.is_bool(),
+            Rule::Word(choice) => choice.is_word_of(value),
+            Rule::Pair => is_pair(value),
+            Rule::Table => value.is_table(),
+            Rule::Array(each, some) => each.is_array(some, value),
+            Rule::Owner => may_own(totals.secret_free, value),
+            Rule::Server => is_place(table, value),
+        }
     }
 }

@@ -62,14 +62,16 @@ pub fn op_of(text: &str) -> Option<Op>
     }
 }
 
-/// Whether the text is one of the words that a key may have.
-#[tactic(auto, unfolding(crate::specs::Words::is_word))]
-pub fn is_word(choice: Choice, text: &str) -> bool
-    ensures { result ≡ is_word choice text.now }
-{
-    match choice {
-        Choice::Rights => rights_of(text).is_some(),
-        Choice::Round => round_of(text).is_some(),
-        Choice::Op => op_of(text).is_some(),
+impl Choice {
+    /// Whether the text is one of the words that a key may have.
+    #[tactic(auto, unfolding(crate::specs::Words::is_word))]
+    pub fn is_word(self, text: &str) -> bool
+        ensures { result ≡ is_word self text.now }
+    {
+        match self {
+            Choice::Rights => rights_of(text).is_some(),
+            Choice::Round => round_of(text).is_some(),
+            Choice::Op => op_of(text).is_some(),
+        }
     }
 }

@@ -30,7 +30,8 @@ fn device_part(alloc: Global, table: &Table) -> Result<DevicePart, AllocError>
 
 // The devices of an array of tables.
 fn device_parts(alloc: Global, items: &[Value]) -> Result<Vec<DevicePart>, AllocError>
-    ensures { IfOk result (λ devices. devices.items ≡ from_tables device_part (items_view items.now)) }
+    ensures { IfOk result
+        (λ devices. devices.items ≡ from_tables device_part (items_view items.now)) }
 {
     let mut devices = Vec::new(alloc);
     for item in items {

@@ -7,18 +7,21 @@ ghost use Rattle.box_config.specs.Names.{is_named_among, name_refusal};
 use board_map::number;
 use flat_model::{BoxText, Refused};
 
+// Whether the byte is a lower-case letter.
 fn is_lower(byte: u8) -> bool
     ensures { result ≡ is_lower byte }
 {
     b'a' <= byte && byte <= b'z'
 }
 
+// Whether a name may have the byte after its first.
 fn is_name_byte(byte: u8) -> bool
     ensures { result ≡ is_name_byte byte }
 {
     is_lower(byte) || b'0' <= byte && byte <= b'9' || byte == b'_'
 }
 
+// Whether a name may have each of the bytes after its first.
 fn are_name_bytes(bytes: &[u8]) -> bool
     ensures { result ≡ list_all is_name_byte bytes.now }
 {
@@ -79,8 +82,6 @@ pub fn name_refusal(boxes: &[BoxText]) -> Option<Refused>
     if let Some(at_box) = first_bad(boxes) {
         return Some(Refused::BadName { at_box });
     }
-    match first_twice(boxes) {
-        Some(at_box) => Some(Refused::TwiceNamed { at_box }),
-        None => None,
-    }
+    let at_box = first_twice(boxes)?;
+    Some(Refused::TwiceNamed { at_box })
 }

@@ -39,7 +39,8 @@ pub fn strings_of(alloc: Global, items: &[Value]) -> Result<Items<Text>, AllocEr
 
 // The strings of an array, as they come.
 fn plain_strings(alloc: Global, items: &[Value]) -> Result<Vec<String>, AllocError>
-    ensures { IfOk result (λ texts. map string_bytes texts.items ≡ strings_of (items_view items.now)) }
+    ensures { IfOk result
+        (λ texts. map string_bytes texts.items ≡ strings_of (items_view items.now)) }
 {
     let mut texts = Vec::new(alloc);
     for item in items {
@@ -53,14 +54,16 @@ fn plain_strings(alloc: Global, items: &[Value]) -> Result<Vec<String>, AllocErr
 /// The script words of a document; none where it has no script.
 #[tactic(auto, unfolding(crate::specs::Texts::script_of))]
 pub fn read_script(alloc: Global, document: &Table) -> Result<Vec<String>, OutOfMemory>
-    ensures { IfOk result (λ words. map string_bytes words.items ≡ script_of (table_view document.now)) }
+    ensures { IfOk result
+        (λ words. map string_bytes words.items ≡ script_of (table_view document.now)) }
 {
     plain_strings(alloc, array_at(document, Key::Script)).map_err(|_| OutOfMemory)
 }
 
 // The strings of an array, lent by it.
 fn lent_strings(alloc: Global, items: &[Value]) -> Result<Vec<&str>, AllocError>
-    ensures { IfOk result (λ texts. map (λ text. text.now) texts.items ≡ strings_of (items_view items.now)) }
+    ensures { IfOk result
+        (λ texts. map (λ text. text.now) texts.items ≡ strings_of (items_view items.now)) }
 {
     let mut texts = Vec::with_capacity(alloc, items.len())?;
     for item in items {
@@ -74,7 +77,8 @@ fn lent_strings(alloc: Global, items: &[Value]) -> Result<Vec<&str>, AllocError>
 /// The script words of a document, lent by it, so that none is copied; none where it has no script.
 #[tactic(auto, unfolding(crate::specs::Texts::script_of))]
 pub fn script_texts(alloc: Global, document: &Table) -> Result<Vec<&str>, OutOfMemory>
-    ensures { IfOk result (λ words. map (λ word. word.now) words.items ≡ script_of (table_view document.now)) }
+    ensures { IfOk result
+        (λ words. map (λ word. word.now) words.items ≡ script_of (table_view document.now)) }
 {
     lent_strings(alloc, array_at(document, Key::Script)).map_err(|_| OutOfMemory)
 }

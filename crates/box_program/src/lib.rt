@@ -3,6 +3,7 @@
 
 mod numbers;
 mod opcodes;
+mod operands;
 mod program;
 mod spelling;
 #[cfg(test)]

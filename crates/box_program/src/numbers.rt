@@ -5,7 +5,7 @@ ghost use Rattle.box_program.specs.Numbers.{value_of, leads_well, decimal_value,
 /// The least number that no word of 32 bits has: a larger number is read as this one.
 pub const LARGE: u64 = 1 << 32;
 
-/// The number that the digits write, where each byte is a digit in the radix.
+// The number that the digits write, where each byte is a digit in the radix.
 #[tactic(auto, unfolding(crate::specs::Numbers::value_of))]
 fn value_of(radix: u32, digits: &[u8]) -> Option<u64>
     requires lower_bound { 2 ≤ radix }
@@ -20,6 +20,7 @@ fn value_of(radix: u32, digits: &[u8]) -> Option<u64>
     Some(value)
 }
 
+// The number that decimal digits without leading zeros write.
 #[tactic(auto, unfolding(crate::specs::Numbers::decimal_value, crate::specs::Numbers::leads_well))]
 fn decimal_value(digits: &[u8]) -> Option<u64>
     ensures { result ≡ option_map (λ n. min n LARGE) (decimal_value digits.now) }
@@ -31,6 +32,7 @@ fn decimal_value(digits: &[u8]) -> Option<u64>
     }
 }
 
+// The number that one to eight hexadecimal digits write.
 #[tactic(auto, unfolding(crate::specs::Numbers::hexadecimal_value))]
 fn hexadecimal_value(digits: &[u8]) -> Option<u64>
     ensures { result ≡ option_map (λ n. min n LARGE) (hexadecimal_value digits.now) }

@@ -1,8 +1,7 @@
-ghost use Rattle.std.specs.Prelude.{◌≡◌, ◌≤◌, length, find};
+ghost use Rattle.std.specs.Prelude.{◌≡◌, ◌≤◌, length, find, map};
 ghost use Rattle.flat_model.specs.Operands.{IsValidInstr};
-ghost use Rattle.box_program.specs.Opcodes.{row, is_named, opcode_of, parts_of};
+ghost use Rattle.box_program.specs.Opcodes.{row, is_named, opcode_of, parts, parts_of};
 
-use crate::opcodes::Operand::{Looks, Register, Small, Word};
 use flat_model::Instr;
 
 /// What an operand is (docs/PROGRAMS.md): a register, a word, a small number, or a count of looks,
@@ -60,81 +59,65 @@ pub struct Parts {
     pub third: u32,
 }
 
-static OPCODES: [Opcode; 31] = [
-    Opcode::Set,
-    Opcode::Mov,
-    Opcode::Add,
-    Opcode::Sub,
-    Opcode::And,
-    Opcode::Orr,
-    Opcode::Eor,
-    Opcode::Load8,
-    Opcode::Load16,
-    Opcode::Load32,
-    Opcode::Store8,
-    Opcode::Store16,
-    Opcode::Store32,
-    Opcode::Exec,
-    Opcode::Jump,
-    Opcode::Jz,
-    Opcode::Jnz,
-    Opcode::BoxId,
-    Opcode::PagesAlloc,
-    Opcode::PageFree,
-    Opcode::IrqOn,
-    Opcode::IrqOff,
-    Opcode::IrqReturn,
-    Opcode::GwRead,
-    Opcode::GwWrite,
-    Opcode::RpcCall,
-    Opcode::RpcSync,
-    Opcode::RpcTake,
-    Opcode::RpcReturn,
-    Opcode::RpcResult,
-    Opcode::Halt,
+// A row of the table of instructions: a kind, its word, and its operands from the left.
+#[derive(Clone, Copy)]
+struct Row {
+    opcode: Opcode,
+    word: &'static str,
+    operands: &'static [Operand],
+}
+
+// A row on one line.
+macro_rules! row {
+    ($opcode:ident, $word:literal, [$($operand:ident),*]) => {
+        Row { opcode: Opcode::$opcode, word: $word, operands: &[$(Operand::$operand),*] }
+    };
+}
+
+// The table of instructions, in the order in which `Opcode` names the kinds.
+static TABLE: [Row; 31] = [
+    row!(Set, "set", [Register, Word]),
+    row!(Mov, "mov", [Register, Register]),
+    row!(Add, "add", [Register, Register, Register]),
+    row!(Sub, "sub", [Register, Register, Register]),
+    row!(And, "and", [Register, Register, Register]),
+    row!(Orr, "orr", [Register, Register, Register]),
+    row!(Eor, "eor", [Register, Register, Register]),
+    row!(Load8, "load8", [Register, Register, Word]),
+    row!(Load16, "load16", [Register, Register, Word]),
+    row!(Load32, "load32", [Register, Register, Word]),
+    row!(Store8, "store8", [Register, Register, Word]),
+    row!(Store16, "store16", [Register, Register, Word]),
+    row!(Store32, "store32", [Register, Register, Word]),
+    row!(Exec, "exec", [Register, Word]),
+    row!(Jump, "jump", [Small]),
+    row!(Jz, "jz", [Register, Small]),
+    row!(Jnz, "jnz", [Register, Small]),
+    row!(BoxId, "box_id", [Register]),
+    row!(PagesAlloc, "pages_alloc", [Register, Register]),
+    row!(PageFree, "page_free", [Register]),
+    row!(IrqOn, "irq_on", [Small]),
+    row!(IrqOff, "irq_off", [Small]),
+    row!(IrqReturn, "irq_return", []),
+    row!(GwRead, "gw_read", [Register, Small]),
+    row!(GwWrite, "gw_write", [Register, Small]),
+    row!(RpcCall, "rpc_call", [Register, Small]),
+    row!(RpcSync, "rpc_sync", [Small, Looks]),
+    row!(RpcTake, "rpc_take", []),
+    row!(RpcReturn, "rpc_return", [Register]),
+    row!(RpcResult, "rpc_result", [Register, Register]),
+    row!(Halt, "halt", []),
 ];
 
 impl Opcode {
-    /// The row of the table of instruction words: the word and the operands.
+    // The row of the kind.
     #[tactic(auto, unfolding(crate::specs::Opcodes::row))]
-    fn row(self) -> (&'static str, &'static [Operand])
-        ensures word { result.0.now ≡ (row self).word }
-        ensures short { length result.0.now ≤ 11 }
-        ensures operands { result.1.now ≡ (row self).operands }
+    fn row(self) -> &'static Row
+        ensures word { result.now.word.now ≡ (row self).word }
+        ensures short { length result.now.word.now ≤ 11 }
+        ensures operands { result.now.operands.now ≡ (row self).operands }
     {
-        match self {
-            Opcode::Set => ("set", &[Register, Word]),
-            Opcode::Mov => ("mov", &[Register, Register]),
-            Opcode::Add => ("add", &[Register, Register, Register]),
-            Opcode::Sub => ("sub", &[Register, Register, Register]),
-            Opcode::And => ("and", &[Register, Register, Register]),
-            Opcode::Orr => ("orr", &[Register, Register, Register]),
-            Opcode::Eor => ("eor", &[Register, Register, Register]),
-            Opcode::Load8 => ("load8", &[Register, Register, Word]),
-            Opcode::Load16 => ("load16", &[Register, Register, Word]),
-            Opcode::Load32 => ("load32", &[Register, Register, Word]),
-            Opcode::Store8 => ("store8", &[Register, Register, Word]),
-            Opcode::Store16 => ("store16", &[Register, Register, Word]),
-            Opcode::Store32 => ("store32", &[Register, Register, Word]),
-            Opcode::Exec => ("exec", &[Register, Word]),
-            Opcode::Jump => ("jump", &[Small]),
-            Opcode::Jz => ("jz", &[Register, Small]),
-            Opcode::Jnz => ("jnz", &[Register, Small]),
-            Opcode::BoxId => ("box_id", &[Register]),
-            Opcode::PagesAlloc => ("pages_alloc", &[Register, Register]),
-            Opcode::PageFree => ("page_free", &[Register]),
-            Opcode::IrqOn => ("irq_on", &[Small]),
-            Opcode::IrqOff => ("irq_off", &[Small]),
-            Opcode::IrqReturn => ("irq_return", &[]),
-            Opcode::GwRead => ("gw_read", &[Register, Small]),
-            Opcode::GwWrite => ("gw_write", &[Register, Small]),
-            Opcode::RpcCall => ("rpc_call", &[Register, Small]),
-            Opcode::RpcSync => ("rpc_sync", &[Small, Looks]),
-            Opcode::RpcTake => ("rpc_take", &[]),
-            Opcode::RpcReturn => ("rpc_return", &[Register]),
-            Opcode::RpcResult => ("rpc_result", &[Register, Register]),
-            Opcode::Halt => ("halt", &[]),
-        }
+        &TABLE[self as usize]
     }
 
     /// The word of the instruction.
@@ -142,14 +125,14 @@ impl Opcode {
         ensures word { result.now ≡ (row self).word }
         ensures short { length result.now ≤ 11 }
     {
-        self.row().0
+        self.row().word
     }
 
     /// The operands of the instruction, from the left.
     pub fn operands(self) -> &'static [Operand]
         ensures { result.now ≡ (row self).operands }
     {
-        self.row().1
+        self.row().operands
     }
 
     /// The kind of instruction that a word names.
@@ -157,16 +140,20 @@ impl Opcode {
     pub fn of_word(word: &[u8]) -> Option<Opcode>
         ensures { result ≡ opcode_of word.now }
     {
-        Opcode::first_named(&OPCODES, word)
+        Opcode::first_named(&TABLE, word)
     }
 
-    fn first_named(opcodes: &[Opcode], word: &[u8]) -> Option<Opcode>
-        ensures { result ≡ find (λ opcode. is_named opcode word.now) opcodes.now }
+    // The kind of the first row that a word names.
+    fn first_named(rows: &[Row], word: &[u8]) -> Option<Opcode>
+        ensures { result
+            ≡ find (λ opcode. is_named opcode word.now) (map (λ row. row.opcode) rows.now) }
     {
-        opcodes.iter().copied().find(|opcode| opcode.is_named(word))
+        rows.iter()
+            .map(|row| row.opcode)
+            .find(|opcode| opcode.is_named(word))
     }
 
-    /// Whether the word names the instruction.
+    // Whether the word names the instruction.
     #[tactic(auto, unfolding(crate::specs::Opcodes::is_named))]
     fn is_named(self, word: &[u8]) -> bool
         ensures { result ≡ is_named self word.now }
@@ -214,55 +201,58 @@ impl Opcode {
             Opcode::Halt => Instr::Halt,
         }
     }
-}
 
-/// An instruction taken apart.
-#[tactic(auto, unfolding(crate::specs::Opcodes::parts_of))]
-pub fn parts_of(instr: &Instr) -> Parts
-    ensures { result ≡ parts_of instr.now }
-{
-    match *instr {
-        Instr::Set(d, w) => taken_apart(Opcode::Set, u32::from(d), w, 0),
-        Instr::Mov(d, s) => taken_apart(Opcode::Mov, u32::from(d), u32::from(s), 0),
-        Instr::Add(d, a, b) => taken_apart(Opcode::Add, u32::from(d), u32::from(a), u32::from(b)),
-        Instr::Sub(d, a, b) => taken_apart(Opcode::Sub, u32::from(d), u32::from(a), u32::from(b)),
-        Instr::And(d, a, b) => taken_apart(Opcode::And, u32::from(d), u32::from(a), u32::from(b)),
-        Instr::Orr(d, a, b) => taken_apart(Opcode::Orr, u32::from(d), u32::from(a), u32::from(b)),
-        Instr::Eor(d, a, b) => taken_apart(Opcode::Eor, u32::from(d), u32::from(a), u32::from(b)),
-        Instr::Load8(d, a, w) => taken_apart(Opcode::Load8, u32::from(d), u32::from(a), w),
-        Instr::Load16(d, a, w) => taken_apart(Opcode::Load16, u32::from(d), u32::from(a), w),
-        Instr::Load32(d, a, w) => taken_apart(Opcode::Load32, u32::from(d), u32::from(a), w),
-        Instr::Store8(s, a, w) => taken_apart(Opcode::Store8, u32::from(s), u32::from(a), w),
-        Instr::Store16(s, a, w) => taken_apart(Opcode::Store16, u32::from(s), u32::from(a), w),
-        Instr::Store32(s, a, w) => taken_apart(Opcode::Store32, u32::from(s), u32::from(a), w),
-        Instr::Exec(a, w) => taken_apart(Opcode::Exec, u32::from(a), w, 0),
-        Instr::Jump(n) => taken_apart(Opcode::Jump, n, 0, 0),
-        Instr::Jz(a, n) => taken_apart(Opcode::Jz, u32::from(a), n, 0),
-        Instr::Jnz(a, n) => taken_apart(Opcode::Jnz, u32::from(a), n, 0),
-        Instr::BoxId(d) => taken_apart(Opcode::BoxId, u32::from(d), 0, 0),
-        Instr::PagesAlloc(n, t) => taken_apart(Opcode::PagesAlloc, u32::from(n), u32::from(t), 0),
-        Instr::PageFree(a) => taken_apart(Opcode::PageFree, u32::from(a), 0, 0),
-        Instr::IrqOn(n) => taken_apart(Opcode::IrqOn, n, 0, 0),
-        Instr::IrqOff(n) => taken_apart(Opcode::IrqOff, n, 0, 0),
-        Instr::IrqReturn => taken_apart(Opcode::IrqReturn, 0, 0, 0),
-        Instr::GwRead(d, n) => taken_apart(Opcode::GwRead, u32::from(d), n, 0),
-        Instr::GwWrite(s, n) => taken_apart(Opcode::GwWrite, u32::from(s), n, 0),
-        Instr::RpcCall(d, n) => taken_apart(Opcode::RpcCall, u32::from(d), n, 0),
-        Instr::RpcSync(n, m) => taken_apart(Opcode::RpcSync, n, m, 0),
-        Instr::RpcTake => taken_apart(Opcode::RpcTake, 0, 0, 0),
-        Instr::RpcReturn(s) => taken_apart(Opcode::RpcReturn, u32::from(s), 0, 0),
-        Instr::RpcResult(d, s) => taken_apart(Opcode::RpcResult, u32::from(d), u32::from(s), 0),
-        Instr::Halt => taken_apart(Opcode::Halt, 0, 0, 0),
+    // The parts of an instruction of the kind.
+    fn parts(self, first: u32, second: u32, third: u32) -> Parts
+        ensures { result ≡ parts self first second third }
+    {
+        Parts {
+            opcode: self,
+            first,
+            second,
+            third,
+        }
     }
 }
 
-fn taken_apart(opcode: Opcode, first: u32, second: u32, third: u32) -> Parts
-    ensures { result ≡ record { opcode = opcode; first = first; second = second; third = third } }
-{
-    Parts {
-        opcode,
-        first,
-        second,
-        third,
+impl Parts {
+    /// An instruction taken apart.
+    #[tactic(auto, unfolding(crate::specs::Opcodes::parts_of))]
+    pub fn of(instr: &Instr) -> Parts
+        ensures { result ≡ parts_of instr.now }
+    {
+        match *instr {
+            Instr::Set(d, w) => Opcode::Set.parts(u32::from(d), w, 0),
+            Instr::Mov(d, s) => Opcode::Mov.parts(u32::from(d), u32::from(s), 0),
+            Instr::Add(d, a, b) => Opcode::Add.parts(u32::from(d), u32::from(a), u32::from(b)),
+            Instr::Sub(d, a, b) => Opcode::Sub.parts(u32::from(d), u32::from(a), u32::from(b)),
+            Instr::And(d, a, b) => Opcode::And.parts(u32::from(d), u32::from(a), u32::from(b)),
+            Instr::Orr(d, a, b) => Opcode::Orr.parts(u32::from(d), u32::from(a), u32::from(b)),
+            Instr::Eor(d, a, b) => Opcode::Eor.parts(u32::from(d), u32::from(a), u32::from(b)),
+            Instr::Load8(d, a, w) => Opcode::Load8.parts(u32::from(d), u32::from(a), w),
+            Instr::Load16(d, a, w) => Opcode::Load16.parts(u32::from(d), u32::from(a), w),
+            Instr::Load32(d, a, w) => Opcode::Load32.parts(u32::from(d), u32::from(a), w),
+            Instr::Store8(s, a, w) => Opcode::Store8.parts(u32::from(s), u32::from(a), w),
+            Instr::Store16(s, a, w) => Opcode::Store16.parts(u32::from(s), u32::from(a), w),
+            Instr::Store32(s, a, w) => Opcode::Store32.parts(u32::from(s), u32::from(a), w),
+            Instr::Exec(a, w) => Opcode::Exec.parts(u32::from(a), w, 0),
+            Instr::Jump(n) => Opcode::Jump.parts(n, 0, 0),
+            Instr::Jz(a, n) => Opcode::Jz.parts(u32::from(a), n, 0),
+            Instr::Jnz(a, n) => Opcode::Jnz.parts(u32::from(a), n, 0),
+            Instr::BoxId(d) => Opcode::BoxId.parts(u32::from(d), 0, 0),
+            Instr::PagesAlloc(n, t) => Opcode::PagesAlloc.parts(u32::from(n), u32::from(t), 0),
+            Instr::PageFree(a) => Opcode::PageFree.parts(u32::from(a), 0, 0),
+            Instr::IrqOn(n) => Opcode::IrqOn.parts(n, 0, 0),
+            Instr::IrqOff(n) => Opcode::IrqOff.parts(n, 0, 0),
+            Instr::IrqReturn => Opcode::IrqReturn.parts(0, 0, 0),
+            Instr::GwRead(d, n) => Opcode::GwRead.parts(u32::from(d), n, 0),
+            Instr::GwWrite(s, n) => Opcode::GwWrite.parts(u32::from(s), n, 0),
+            Instr::RpcCall(d, n) => Opcode::RpcCall.parts(u32::from(d), n, 0),
+            Instr::RpcSync(n, m) => Opcode::RpcSync.parts(n, m, 0),
+            Instr::RpcTake => Opcode::RpcTake.parts(0, 0, 0),
+            Instr::RpcReturn(s) => Opcode::RpcReturn.parts(u32::from(s), 0, 0),
+            Instr::RpcResult(d, s) => Opcode::RpcResult.parts(u32::from(d), u32::from(s), 0),
+            Instr::Halt => Opcode::Halt.parts(0, 0, 0),
+        }
     }
 }

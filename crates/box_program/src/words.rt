@@ -10,6 +10,7 @@ pub fn is_line_feed(b: u8) -> bool
     b == b'\n'
 }
 
+// Whether the byte begins a comment.
 #[tactic(auto, unfolding(crate::specs::Words::is_semicolon))]
 fn is_semicolon(b: u8) -> bool
     ensures { result ≡ is_semicolon b }
@@ -17,6 +18,7 @@ fn is_semicolon(b: u8) -> bool
     b == b';'
 }
 
+// Whether the byte separates words.
 #[tactic(auto, unfolding(crate::specs::Words::is_blank))]
 fn is_blank(b: u8) -> bool
     ensures { result ≡ is_blank b }
@@ -24,6 +26,7 @@ fn is_blank(b: u8) -> bool
     b == b' ' || b == b'\t' || b == b'\r'
 }
 
+// Whether a piece between blanks is a word.
 #[tactic(auto, unfolding(crate::specs::Words::has_bytes))]
 fn has_bytes(word: &[u8]) -> bool
     ensures { result ≡ has_bytes word.now }
@@ -31,7 +34,7 @@ fn has_bytes(word: &[u8]) -> bool
     !word.is_empty()
 }
 
-/// What stands before a line's comment.
+// What stands before a line's comment.
 #[tactic(auto, unfolding(crate::specs::Words::code_part))]
 fn code_part(line: &[u8]) -> &[u8]
     ensures { result.now ≡ code_part line.now }
