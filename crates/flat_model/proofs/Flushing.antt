@@ -6,8 +6,9 @@ use Rattle.std.proofs.lemmas.Bool.{cases_Bool, cases_eq, cases_lt, eqb-false}
 use Rattle.std.proofs.Math.ListN.{length-set}
 use Rattle.addr_base.specs.declared.pairs.Pair.{Pair}
 use Rattle.flat_model.specs.Plan.{cleared, flushed_pairs, next_slot, no_pair, slots_from}
+use Rattle.flat_model.specs.Circle.{IsTurnedBy, OnCircle}
 use Rattle.flat_model.proofs.Elements.{slice_get-set_same, slice_get-set_other}
-use Rattle.flat_model.proofs.Turning.{IsTurnedBy, OnCircle, length-slots_from}
+use Rattle.flat_model.proofs.Turning.{length-slots_from}
 
 -- the circle's next slot is on the circle
 pub OnCircle-next : (regions c : ℕ) → 4 ≤ regions → OnCircle regions c → OnCircle regions (next_slot regions c)

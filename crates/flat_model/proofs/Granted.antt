@@ -1,5 +1,5 @@
 -- Over every run of the unit: an access is granted exactly where the box holds it, once it recovered.
-use Rattle.std.proofs.Common.{◌≡◌, ℕ, ◌+◌, ◌-◌, ◌*◌, ◌/◌, ◌%◌, ◌^◌, ◌<◌, ◌≤◌, Bool, true, false, List, [], ◌∷◌, length, map, Option, Some, None, refl, sym, ◌∙◌, ap, subst, arith, inl, inr}
+use Rattle.std.proofs.Common.{◌≡◌, ℕ, ◌+◌, ◌-◌, ◌*◌, ◌/◌, ◌%◌, ◌^◌, ◌<◌, ◌≤◌, Bool, true, false, List, [], ◌∷◌, map, Option, Some, None, refl, sym, ◌∙◌, ap, subst, arith, inl, inr}
 use Rattle.std.specs.Prelude.{◌&&◌, ◌||◌, not, nat_le, nat_lt, IfSome, if◌then◌else◌, slice_set}
 use Rattle.std.specs.List.{AllByRecursion, Contains, list_any, slice_get}
 use Rattle.std.specs.Option.{option_map_or}
@@ -22,27 +22,24 @@ use Rattle.flat_model.specs.declared.boards.HeapPart.{HeapPart}
 use Rattle.flat_model.specs.declared.parts.BoxPart.{BoxPart}
 use Rattle.flat_model.specs.declared.parts.Config.{Config}
 use Rattle.flat_model.specs.declared.parts.Item.{Item}
-use Rattle.flat_model.specs.Access.{in_heap, is_aligned, is_data, item_holds, items_at, may_access, owned_by}
+use Rattle.flat_model.specs.Access.{holds, in_heap, is_aligned, is_data, item_holds, items_at, owned_by, owns}
 use Rattle.flat_model.specs.Decision.{decision, is_granted}
 use Rattle.flat_model.specs.Items.{code_between, flash_items, items_of}
-use Rattle.flat_model.specs.Plan.{REGIONS, first_serving, flash_pair, overlay_pair, own_pair, owns, plan_of, switch_slots}
+use Rattle.flat_model.specs.Pages.{HasOwners}
+use Rattle.flat_model.specs.Plan.{REGIONS, first_serving, flash_pair, overlay_pair, own_pair, plan_of, switch_slots}
 use Rattle.flat_model.specs.UnitRun.{UnitState, accessed, entered, flushed, is_last, rotated, rotating_pair, unit_after_event}
+use Rattle.flat_model.specs.Circle.{IsGrouped, IsTurnedBy, OnCircle}
 use Rattle.flat_model.proofs.Covers.{IsOneBlock}
 use Rattle.flat_model.proofs.Elements.{each-append, each_weaker}
 use Rattle.flat_model.proofs.Flushing.{OnCircle-next, flushed_pairs-turned}
 use Rattle.flat_model.proofs.HeldBytes.{HasWholeWords, IsSize, flash_items-holds, holds_one, in_pages-one, in_pages-own, is_hidden, list_any-item_holds-one}
 use Rattle.flat_model.proofs.PageGroups.{gives_pages}
-use Rattle.flat_model.proofs.PagePairs.{IsGrouped}
 use Rattle.flat_model.proofs.Pieces.{held_by}
 use Rattle.flat_model.proofs.Placed.{IsPlaced, IsSecretOf, IsTiledGrant}
 use Rattle.flat_model.proofs.Powers.{divides_below}
 use Rattle.flat_model.proofs.Recovery.{IsFirst-first_serving, IsHonest, granted-touched}
 use Rattle.flat_model.proofs.Suited.{IsSuited-placed, grant_piece, in_own_pages, pieces_of}
-use Rattle.flat_model.proofs.Turning.{IsTurnedBy, IsTurnedBy-set, IsTurnedBy-switch, IsTurnedBy-weaker, OnCircle}
-
--- there is one owner for each page of the heap
-abbrev pub HasOwners : Option HeapPart → List (Option BoxId) → Type 0
-HasOwners heap owners = IfSome heap (λ h. length owners ≡ h.count)
+use Rattle.flat_model.proofs.Turning.{IsTurnedBy-set, IsTurnedBy-switch, IsTurnedBy-weaker}
 
 -- ---- what a box holds at a byte, as pieces
 
@@ -146,8 +143,8 @@ in_heap-one (Some h) owners b a n it size aligned =
     in_pages-one (owned_by b) h.base h.page a n owners base page size aligned
 
 -- An aligned access is held exactly where its first byte is.
-pub may_access-held : (cfg : Config) (owners : List (Option BoxId)) (b a n : ℕ) (kind : Kind) (part : BoxPart) → slice_get cfg.boxes b ≡ Some part → IsPlaced cfg.board part → HasOwners cfg.board.heap owners → IsSize n → a % n ≡ 0 → may_access cfg owners b a n kind ≡ held_by (pieces_of cfg.board part owners b) a kind
-may_access-held cfg owners b a n kind part found placed all size aligned =
+pub holds-held : (cfg : Config) (owners : List (Option BoxId)) (b a n : ℕ) (kind : Kind) (part : BoxPart) → slice_get cfg.boxes b ≡ Some part → IsPlaced cfg.board part → HasOwners cfg.board.heap owners → IsSize n → a % n ≡ 0 → holds cfg owners b a n kind ≡ held_by (pieces_of cfg.board part owners b) a kind
+holds-held cfg owners b a n kind part found placed all size aligned =
     let even : is_aligned a n ≡ true = eq-eqb (a % n) 0 aligned in
     let items : items_at cfg b ≡ items_of cfg.board part = ap (λ o. option_map_or (λ p. p.items) o []) found ∙ placed.items in
     let one = list_any-item_holds-one a n kind (items_of cfg.board part) (each_item_whole cfg.board part placed) size aligned in
@@ -166,7 +163,7 @@ pairs-rotated u None = refl
 pairs-rotated u (Some p) = refl
 
 -- An access is granted exactly where the box holds it, whatever rotations came before.
-pub granted-held : (cfg : Config) (owners : List (Option BoxId)) (b : ℕ) (part : BoxPart) (u : UnitState) (access : Access) → IsPlaced cfg.board part → HasOwners cfg.board.heap owners → slice_get cfg.boxes b ≡ Some part → IsReady cfg owners b part u → IsSize access.size → access.at % access.size ≡ 0 → is_granted (decision (accessed (plan_of cfg owners b part) u (Some access)).pairs access.at access.kind) ≡ may_access cfg owners b access.at access.size access.kind
+pub granted-held : (cfg : Config) (owners : List (Option BoxId)) (b : ℕ) (part : BoxPart) (u : UnitState) (access : Access) → IsPlaced cfg.board part → HasOwners cfg.board.heap owners → slice_get cfg.boxes b ≡ Some part → IsReady cfg owners b part u → IsSize access.size → access.at % access.size ≡ 0 → is_granted (decision (accessed (plan_of cfg owners b part) u (Some access)).pairs access.at access.kind) ≡ holds cfg owners b access.at access.size access.kind
 granted-held cfg owners b part u access placed all found ready size aligned =
     let held : ℕ → Kind → Bool = held_by (pieces_of cfg.board part owners b) in
     let suited = IsSuited-placed cfg.board part owners b placed in
@@ -176,7 +173,7 @@ granted-held cfg owners b part u access placed all found ready size aligned =
     ap (λ ps. is_granted (decision ps access.at access.kind)) (pairs-rotated u (rotating_pair (plan_of cfg owners b part) u access))
     ∙ granted-touched held REGIONS (flash_pair cfg.board) (own_pair part) (overlay_pair cfg.board part) (plan_of cfg owners b part) u.pairs access.at access.kind u.circle
     (omega arith) suited honest ready.on
-    ∙ sym (may_access-held cfg owners b access.at access.size access.kind part found placed all size aligned)
+    ∙ sym (holds-held cfg owners b access.at access.size access.kind part found placed all size aligned)
 
 -- ---- a switch, an access and a flush keep it
 

@@ -14,9 +14,8 @@ use Rattle.addr_base.specs.declared.rights.Kind.{Kind}
 use Rattle.addr_base.specs.Range.{end_of, holds_bytes, in_range}
 use Rattle.addr_base.specs.Rights.{gives, read_execute}
 use Rattle.flat_model.specs.declared.parts.Item.{Item}
-use Rattle.flat_model.specs.Access.{in_pages, item_holds, owned_by}
+use Rattle.flat_model.specs.Access.{in_pages, item_holds, owned_by, owns}
 use Rattle.flat_model.specs.Items.{code_between, flash_items, flash_whole}
-use Rattle.flat_model.specs.Plan.{owns}
 
 -- the sizes of accesses
 abbrev pub IsSize : ℕ → Type 0

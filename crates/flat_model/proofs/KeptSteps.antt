@@ -5,7 +5,7 @@ use Rattle.std.proofs.lemmas.Option.{slice_get-map}
 use Rattle.std.specs.Option.{option_map}
 use Rattle.addr_base.specs.declared.identity.BoxId.{BoxId}
 use Rattle.addr_base.specs.declared.identity.ThreadId.{ThreadId}
-use Rattle.flat_model.specs.declared.actors.Who.{Who}
+use Rattle.addr_base.specs.declared.identity.Ticket.{Ticket}
 use Rattle.flat_model.specs.declared.events.Choice.{Choice}
 use Rattle.flat_model.specs.declared.events.Choice.TheVariants as choice
 use Rattle.flat_model.specs.declared.events.Reply.{Reply}
@@ -15,17 +15,21 @@ use Rattle.flat_model.specs.declared.parts.ThreadPart.{ThreadPart}
 use Rattle.flat_model.specs.declared.states.Flat.{Flat}
 use Rattle.flat_model.specs.declared.states.ThreadState.{ThreadState}
 use Rattle.flat_model.specs.Sound.{IsSound, IsThread, homes_from}
-use Rattle.flat_model.specs.Step.{step, turn_at, turn_in}
-use Rattle.flat_model.specs.Want.{is_owned_line}
-use Rattle.flat_model.proofs.WantLemmas.{step-full, step-idle, step-ring, step-start, step-turn, step-unowned}
-use Rattle.flat_model.specs.Stepping.{AllCanStep, CanStep, IsWithin}
+use Rattle.flat_model.specs.Actors.{Actor, IsActor, actor_of, who_acts}
+use Rattle.flat_model.specs.CallRows.{server_row}
+use Rattle.flat_model.specs.Next.{holds_next, next_of_actor}
+use Rattle.flat_model.specs.Outcome.{Outcome}
+use Rattle.flat_model.specs.Step.{fitting_step, serve_by, settled, step, turn_by}
+use Rattle.flat_model.specs.Stepping.{AllCanStep, CanStep, IsWithin, KeepsBudgets}
 use Rattle.flat_model.specs.StepsLeft.{steps_left, steps_left_of}
-use Rattle.flat_model.specs.Thread.{has_ended, opening_thread}
-use Rattle.flat_model.specs.Today.{RunsToday}
-use Rattle.flat_model.specs.Turn.{turn_row}
-use Rattle.flat_model.proofs.Budgets.{turn_row-steps, turn_row-within}
+use Rattle.flat_model.specs.Thread.{counted, has_ended}
+use Rattle.flat_model.specs.ThreadEvents.{opening_thread}
+use Rattle.flat_model.specs.Turn.{row_of, within_budget}
+use Rattle.flat_model.specs.Want.{fits}
+use Rattle.flat_model.proofs.ActorLemmas.{actor-is}
+use Rattle.flat_model.proofs.Budgets.{CountsOne, has_steps, serve-counts, turn-counts}
 use Rattle.flat_model.proofs.Elements.{each-get, slice_get_some}
-use Rattle.flat_model.proofs.TodayLemmas.{config_today}
+use Rattle.flat_model.proofs.StepCases.{step-fits, step-unfit}
 
 -- an element after a change is an old one or the new one
 pub get-slice_set : {A : Type 0} (xs : List A) (t : ℕ) (v : A) (i : ℕ) (x : A) →
@@ -63,14 +67,36 @@ left-by : (thread : ThreadPart) (th v : ThreadState) (a b : Bool) →
 left-by thread th v a true live ended more below = rw (live, ended) (omega arith)
 left-by thread th v a false live ended more below = rw (live, ended) (omega arith)
 
--- a turn of a thread that has not ended leaves it one step less
-pub left-turn : (cfg : Config) (who : Who) (part : BoxPart) (t : ℕ) (thread : ThreadPart) (f : Flat) (th : ThreadState) →
-    RunsToday cfg → slice_get cfg.threads t ≡ Some thread → has_ended th ≡ false → th.steps < thread.steps →
-    steps_left_of thread (turn_row cfg who part thread f.shared th).thread + 1 ≤ steps_left_of thread th
-left-turn cfg who part t thread f th today there live below =
-    left-by thread th (turn_row cfg who part thread f.shared th).thread true
-    (has_ended (turn_row cfg who part thread f.shared th).thread) live refl
-    (turn_row-steps cfg who part thread f.shared th (config_today cfg t th.pc thread today there) live) below
+-- an event of a thread that has not ended leaves it one step less
+pub left-one : (thread : ThreadPart) (th v : ThreadState) → CountsOne th v → has_ended th ≡ false → th.steps < thread.steps →
+    steps_left_of thread v + 1 ≤ steps_left_of thread th
+left-one thread th v one live below = left-by thread th v true (has_ended v) live refl one.steps below
+
+same_program : (a b : ThreadPart) → Some a ≡ Some b → a ≡ b
+same_program a b is = cc
+
+-- ---- what one thread's event leaves of the others
+
+module _ (cfg : Config) (f : Flat) (t : ℕ) (a : Actor) (it : IsActor cfg f t a) (out : Outcome)
+    (one : CountsOne a.thread (within_budget a.program.steps out).thread) where
+  after : Flat
+  after = (settled f t (within_budget a.program.steps out)).0
+
+  -- the thread's event leaves it steps where it may still run
+  has_left : a.thread.count ≤ a.thread.steps → IsWithin a.program (within_budget a.program.steps out).thread
+  has_left few live = has_steps a.program.steps a.thread out few one live
+
+  -- the budgets are kept
+  pub budgets-settled : KeepsBudgets cfg f → KeepsBudgets cfg (settled f t (within_budget a.program.steps out)).0
+  budgets-settled keeps i program th there at =
+      elim (get-slice_set f.threads t (within_budget a.program.steps out).thread i th at) [
+        | inl old ↦ keeps i program th there old
+        | inr new ↦
+            let same : program ≡ a.program = same_program program a.program (sym there ∙ ap (slice_get cfg.threads) new.0 ∙ it.program) in
+            subst (IsWithin program) (sym new.1)
+            (subst (λ (p : ThreadPart). IsWithin p (within_budget a.program.steps out).thread) (sym same)
+            (has_left (keeps t a.program a.thread it.program it.thread it.live).calls))
+      ]
 
 module _ (cfg : Config) (sound : IsSound cfg) where
   -- budgets are small
@@ -80,48 +106,51 @@ module _ (cfg : Config) (sound : IsSound cfg) where
   -- a thread within its budget can step
   pub can-step : (t : ℕ) (thread : ThreadPart) (th : ThreadState) → slice_get cfg.threads t ≡ Some thread →
       IsWithin thread th → CanStep th
-  can-step t thread th at within live = let below = within live in let small = budget-small t thread at in omega arith
+  can-step t thread th at within live =
+      let left = within live in
+      let small = budget-small t thread at in
+      record { steps = omega (arith, left.steps); calls = left.calls }
 
-  can_step-in : (f : Flat) (t : ThreadId) (room : Bool) (thread : ThreadPart) (th : ThreadState) (part : Option BoxPart) →
-      slice_get cfg.threads t.0 ≡ Some thread → AllCanStep f → AllCanStep (turn_in cfg f t room thread th part).0
-  can_step-in f t room thread th None there all = all
-  can_step-in f t room thread th (Some part) there all = λ i x at.
-      elim (get-slice_set f.threads t.0 (turn_row cfg (record { home = thread.home; thread = t; room = room }) part thread f.shared th).thread i x at) [
+  can_step-settled : (f : Flat) (t : ℕ) (a : Actor) (out : Outcome) → IsActor cfg f t a →
+      CountsOne a.thread (within_budget a.program.steps out).thread → AllCanStep f →
+      AllCanStep (settled f t (within_budget a.program.steps out)).0
+  can_step-settled f t a out it one all i x at =
+      elim (get-slice_set f.threads t (within_budget a.program.steps out).thread i x at) [
         | inl old ↦ all i x old
         | inr new ↦ subst CanStep (sym new.1)
-            (can-step t.0 thread (turn_row cfg (record { home = thread.home; thread = t; room = room }) part thread f.shared th).thread there (turn_row-within cfg (record { home = thread.home; thread = t; room = room }) part thread f.shared th))
+            (can-step t a.program (within_budget a.program.steps out).thread it.program
+            (λ live. has_steps a.program.steps a.thread out (all t a.thread it.thread it.live).calls one live))
       ]
 
-  can_step-at : (f : Flat) (t : ThreadId) (room : Bool) (thread : Option ThreadPart) (th : Option ThreadState) →
-      slice_get cfg.threads t.0 ≡ thread → AllCanStep f → AllCanStep (turn_at cfg f t room thread th).0
-  can_step-at f t room None None there all = all
-  can_step-at f t room None (Some th) there all = all
-  can_step-at f t room (Some thread) None there all = all
-  can_step-at f t room (Some thread) (Some th) there all =
-      can_step-in f t room thread th (slice_get cfg.boxes thread.home.0) there all
+  can_step-turn : (f : Flat) (t : ThreadId) (room : Bool) (a : Option Actor) → actor_of cfg f t.0 ≡ a → AllCanStep f →
+      AllCanStep (turn_by cfg f t room a).0
+  can_step-turn f t room None is all = all
+  can_step-turn f t room (Some a) is all =
+      let n = next_of_actor f.shared.lines a t.0 in
+      let granted = holds_next cfg.board a.program.home.0 a.part f.shared.owners n in
+      can_step-settled f t.0 a (row_of cfg (who_acts a t room) a.part f.shared (counted a.thread) granted n) (actor-is cfg f t.0 a is)
+      (turn-counts cfg (who_acts a t room) a.part a.program.steps f.shared a.thread granted n) all
 
-  -- a turn leaves threads that can step
-  pub can_step-turn : (f : Flat) (t : ThreadId) (room : Bool) → AllCanStep f →
-      AllCanStep (turn_at cfg f t room (slice_get cfg.threads t.0) (slice_get f.threads t.0)).0
-  can_step-turn f t room all = can_step-at f t room (slice_get cfg.threads t.0) (slice_get f.threads t.0) refl all
+  can_step-serve : (f : Flat) (t : ThreadId) (ticket : Option Ticket) (a : Option Actor) → actor_of cfg f t.0 ≡ a → AllCanStep f →
+      AllCanStep (serve_by cfg f t ticket a).0
+  can_step-serve f t ticket None is all = all
+  can_step-serve f t ticket (Some a) is all =
+      can_step-settled f t.0 a (server_row cfg a.program.home.0 f.shared (counted a.thread) ticket) (actor-is cfg f t.0 a is)
+      (serve-counts cfg a.program.home.0 a.program.steps f.shared a.thread ticket) all
+
+  can_step-fitting : (f : Flat) (c : Choice) → AllCanStep f → AllCanStep (fitting_step cfg f c).0
+  can_step-fitting f (choice.Turn t room) all = can_step-turn f t room (actor_of cfg f t.0) refl all
+  can_step-fitting f (choice.Start t ticket) all = can_step-serve f t (Some ticket) (actor_of cfg f t.0) refl all
+  can_step-fitting f (choice.Idle t) all = can_step-serve f t None (actor_of cfg f t.0) refl all
+  can_step-fitting f (choice.Ring line by) all = all
 
   -- a choice leaves threads that can step
-  pub can_step-step : (f : Flat) (c : Choice) → RunsToday cfg → AllCanStep f → AllCanStep (step cfg f c).0
-  can_step-step f (choice.Turn t true) today all =
-      subst (λ (p : Flat × Reply). AllCanStep p.0) (sym (step-turn cfg f t today)) (can_step-turn f t true all)
-  can_step-step f (choice.Turn t false) today all =
-      subst (λ (p : Flat × Reply). AllCanStep p.0) (sym (step-full cfg f t today)) all
-  can_step-step f (choice.Start t ticket) today all =
-      subst (λ (p : Flat × Reply). AllCanStep p.0) (sym (step-start cfg f t ticket today)) all
-  can_step-step f (choice.Idle t) today all =
-      subst (λ (p : Flat × Reply). AllCanStep p.0) (sym (step-idle cfg f t today)) all
-  can_step-step f (choice.Ring line by) today all = by_owner (is_owned_line cfg line.0) refl
+  pub can_step-step : (f : Flat) (c : Choice) → AllCanStep f → AllCanStep (step cfg f c).0
+  can_step-step f c all = by_fit (fits cfg f c) refl
     where
-      by_owner : (b : Bool) → is_owned_line cfg line.0 ≡ b → AllCanStep (step cfg f (choice.Ring line by)).0
-      by_owner true owned =
-          subst (λ (p : Flat × Reply). AllCanStep p.0) (sym (step-ring cfg f line by owned)) all
-      by_owner false owned =
-          subst (λ (p : Flat × Reply). AllCanStep p.0) (sym (step-unowned cfg f line by owned)) all
+      by_fit : (b : Bool) → fits cfg f c ≡ b → AllCanStep (step cfg f c).0
+      by_fit true fit = subst (λ (p : Flat × Reply). AllCanStep p.0) (sym (step-fits cfg f c fit)) (can_step-fitting f c all)
+      by_fit false fit = subst (λ (p : Flat × Reply). AllCanStep p.0) (sym (step-unfit cfg f c fit)) all
 
 pub get-replicate : {A : Type 0} (n : ℕ) (v : A) (i : ℕ) (x : A) → slice_get (replicate n v) i ≡ Some x → x ≡ v
 get-replicate zero v i x at = absurd (let e : None ≡ Some x = at in cc)
@@ -133,7 +162,7 @@ pub can_step-opening : (cfg : Config) (f : Flat) → f.threads ≡ replicate (le
 can_step-opening cfg f fresh t th at =
     let is : th ≡ opening_thread =
     get-replicate (length cfg.threads) opening_thread t th (subst (λ xs. slice_get xs t ≡ Some th) fresh at) in
-    subst CanStep (sym is) (λ live. omega arith)
+    subst CanStep (sym is) (λ live. record { steps = omega arith; calls = omega arith })
 
 get-append : {A : Type 0} (xs ys : List A) (i : ℕ) (x : A) → slice_get (xs ++ ys) i ≡ Some x →
     (slice_get xs i ≡ Some x) ⊎ ((j : ℕ) × (slice_get ys j ≡ Some x))

@@ -60,5 +60,5 @@ legal-one_log cfg log legal =
     ap (λ items. record { items = items; ends = log.ends })
     (sym (woven-items log.items legal.unit.closed)
     ∙ ap (λ lines. woven_items lines (entries_of log.items)) legal.unit.lines
-    ∙ ap (λ entries. woven_items (lines_of_run cfg (opening_state cfg) opening_unit (choices_of log.items)) entries) ran)
+    ∙ ap (λ entries. woven_items (lines_of_run cfg (opening_state cfg) (opening_unit cfg) (choices_of log.items)) entries) ran)
     ∙ ap (λ ends. record { items = (log_of_choices cfg (choices_of log.items)).items; ends = ends }) legal.flat.ends

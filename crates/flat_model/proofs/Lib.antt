@@ -1,4 +1,5 @@
 pub mod AccessReplies
+pub mod ActorLemmas
 pub mod Agreement
 pub mod Blocks
 pub mod BoardFacts
@@ -30,6 +31,7 @@ pub mod Recovered
 pub mod Recovery
 pub mod RunWords
 pub mod SoundRun
+pub mod StepCases
 pub mod Suited
 pub mod TodayLemmas
 pub mod TraceLemmas

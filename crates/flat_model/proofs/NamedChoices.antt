@@ -1,6 +1,6 @@
 -- Each choice that fits gives an entry that names what is there.
 use Rattle.std.proofs.Common.{◌≡◌, ℕ, ◌<◌, Bool, true, false, List, [], ◌∷◌, Option, Some, None, refl, sym, ◌∙◌, ap, subst, inl, inr}
-use Rattle.std.specs.Prelude.{◌&&◌, nat_eq, is_none, find, if◌then◌else◌, slice_get, MatchOption}
+use Rattle.std.specs.Prelude.{◌&&◌, nat_eq, is_none, find, if◌then◌else◌, slice_get}
 use Rattle.std.specs.List.{AllByRecursion, list_any}
 use Rattle.std.proofs.lemmas.Bool.{cases_Bool, eq-eqb, eqb-true, false≢true, lt-ltb}
 use Rattle.std.proofs.lemmas.List.Elements.{All-contains, All-from_recursion}
@@ -8,33 +8,36 @@ use Rattle.std.proofs.lemmas.Option.{get_or_from_slice_get, none-some, same_Some
 use Rattle.addr_base.specs.declared.identity.BoxId.{BoxId}
 use Rattle.addr_base.specs.declared.identity.ThreadId.{ThreadId}
 use Rattle.addr_base.specs.declared.identity.Ticket.{Ticket}
+use Rattle.flat_model.specs.declared.actors.Who.{Who}
+use Rattle.flat_model.specs.declared.classes.KernelCall.{KernelCall}
+use Rattle.flat_model.specs.declared.classes.KernelCall.TheVariants as call
 use Rattle.flat_model.specs.declared.events.Choice.{Choice}
 use Rattle.flat_model.specs.declared.events.Choice.TheVariants as choice
-use Rattle.flat_model.specs.declared.events.Mode.{Mode}
-use Rattle.flat_model.specs.declared.events.Mode.TheVariants as mode
 use Rattle.flat_model.specs.declared.events.Reply.TheVariants as reply
 use Rattle.flat_model.specs.declared.events.Want.{Want}
 use Rattle.flat_model.specs.declared.events.Want.TheVariants as want
-use Rattle.flat_model.specs.declared.instructions.Instr.{Instr}
-use Rattle.flat_model.specs.declared.instructions.Instr.TheVariants as instr
+use Rattle.flat_model.specs.declared.next.Next.{Next}
+use Rattle.flat_model.specs.declared.next.Next.TheVariants as next
 use Rattle.flat_model.specs.declared.parts.BoxPart.{BoxPart}
 use Rattle.flat_model.specs.declared.parts.Config.{Config}
 use Rattle.flat_model.specs.declared.parts.RpcGate.{RpcGate}
-use Rattle.flat_model.specs.declared.parts.ThreadPart.{ThreadPart}
 use Rattle.flat_model.specs.declared.states.Call.{Call}
 use Rattle.flat_model.specs.declared.states.Flat.{Flat}
 use Rattle.flat_model.specs.declared.states.Shared.{Shared}
 use Rattle.flat_model.specs.declared.states.ThreadState.{ThreadState}
-use Rattle.flat_model.specs.Calls.{is_posted_to, oldest_posted_by}
-use Rattle.flat_model.specs.Interrupts.{due_interrupt, has_line}
-use Rattle.flat_model.specs.KernelRows.{gateway_for}
+use Rattle.flat_model.specs.Actors.{Actor, actor_of, who_acts}
+use Rattle.flat_model.specs.CallRows.{gateway_for, home_of, is_server, rpc_post_row, served_ticket, server_row, start_row}
+use Rattle.flat_model.specs.Calls.{call_with, is_posted_to, oldest_posted_by, same_ticket}
+use Rattle.flat_model.specs.Interrupts.{has_line}
 use Rattle.flat_model.specs.Log.{is_full_reply, is_idle_reply, is_named_choice, is_start_reply, is_turn_reply}
-use Rattle.flat_model.specs.declared.actors.Who.{Who}
+use Rattle.flat_model.specs.Next.{holds_next, next_of_actor}
 use Rattle.flat_model.specs.Run.{LINES}
-use Rattle.flat_model.specs.Step.{fitting_step, home_of, reply_to, serve_at, server_row, start_row, step, turn_at, turn_in}
-use Rattle.flat_model.specs.Thread.{counted, has_ended, is_ready, is_waiting}
-use Rattle.flat_model.specs.Turn.{instruction_row, served_ticket, turn_row}
-use Rattle.flat_model.specs.Want.{called_gateway, fits, fits_with_room, fits_without_room, is_owned_line, is_thread, next_instruction, takes_a_call, want_at, want_by, want_for, want_in, want_of, want_of_instruction, wants_next}
+use Rattle.flat_model.specs.Step.{fitting_step, reply_to, serve_by, step, turn_by}
+use Rattle.flat_model.specs.Thread.{counted}
+use Rattle.flat_model.specs.ThreadEvents.{posted, posted_and_waiting}
+use Rattle.flat_model.specs.Turn.{kernel_row, row_of}
+use Rattle.flat_model.specs.Want.{fits, fits_with_room, fits_without_room, is_owned_line, is_thread, want_by, want_by_call, want_next, want_of, want_of_actor, want_room, wants_next}
+use Rattle.flat_model.proofs.ActorLemmas.{actor-is}
 use Rattle.flat_model.proofs.NamedReplies.{HasLines, turn-turned}
 
 -- every line that a box names is one that there is
@@ -55,7 +58,7 @@ from_any P passes Q each (x ∷ xs) all some = elim (cases_Bool (passes x)) [
 ]
 
 -- a found element passes the test
-find-passes : {X : Type 0} (passes : X → Bool) → (xs : List X) (x : X) → find passes xs ≡ Some x → passes x ≡ true
+pub find-passes : {X : Type 0} (passes : X → Bool) → (xs : List X) (x : X) → find passes xs ≡ Some x → passes x ≡ true
 find-passes passes [] x found = absurd (none-some x found)
 find-passes passes (y ∷ ys) x found = elim (cases_Bool (passes y)) [
   | inl here ↦ subst (λ z. passes z ≡ true) (same_Some y x (rw here at found)) here
@@ -64,63 +67,27 @@ find-passes passes (y ∷ ys) x found = elim (cases_Bool (passes y)) [
 
 -- ---- a turn with room
 
-turn_in-named : (cfg : Config) (f : Flat) (t : ThreadId) (thread : ThreadPart) (th : ThreadState) (part : Option BoxPart) → MatchOption part (Unit {0}) (λ p. HasLines p.irqs) → is_turn_reply (turn_in cfg f t true thread th part).1 ≡ true
-turn_in-named cfg f t thread th None lines = refl
-turn_in-named cfg f t thread th (Some part) lines =
-    turn-turned cfg (record { home = thread.home; thread = t; room = true }) part thread f.shared th refl lines
+-- the lines of an actor's box are named
+actor_lines : (cfg : Config) (f : Flat) (t : ℕ) (a : Actor) → HasNamedLines cfg → actor_of cfg f t ≡ Some a → HasLines a.part.irqs
+actor_lines cfg f t a all acting =
+    at_place (λ p. HasLines p.irqs) cfg.boxes a.program.home.0 a.part all (actor-is cfg f t a acting).part
 
-box_lines : (cfg : Config) (b : ℕ) → HasNamedLines cfg → MatchOption (slice_get cfg.boxes b) (Unit {0}) (λ p. HasLines p.irqs)
-box_lines cfg b all = found (slice_get cfg.boxes b) refl
-  where
-    found : (part : Option BoxPart) → slice_get cfg.boxes b ≡ part → MatchOption part (Unit {0}) (λ p. HasLines p.irqs)
-    found None is = tt
-    found (Some part) is = at_place (λ p. HasLines p.irqs) cfg.boxes b part all is
-
-turn_at-named : (cfg : Config) (f : Flat) (t : ThreadId) (thread : Option ThreadPart) (th : Option ThreadState) → HasNamedLines cfg → is_turn_reply (turn_at cfg f t true thread th).1 ≡ true
-turn_at-named cfg f t None th all = refl
-turn_at-named cfg f t (Some thread) None all = refl
-turn_at-named cfg f t (Some thread) (Some th) all =
-    turn_in-named cfg f t thread th (slice_get cfg.boxes thread.home.0) (box_lines cfg thread.home.0 all)
+turn-named : (cfg : Config) (f : Flat) (t : ThreadId) (a : Option Actor) → HasNamedLines cfg → actor_of cfg f t.0 ≡ a →
+    is_turn_reply (turn_by cfg f t true a).1 ≡ true
+turn-named cfg f t None all acting = refl
+turn-named cfg f t (Some a) all acting = turn-turned cfg f t a (actor_lines cfg f t.0 a all acting)
 
 -- ---- a turn without room
-
-runs_on : (th : ThreadState) (m : Mode) → is_ready m ≡ true → (has_ended (record th { mode = m }) ≡ false) × (is_waiting m ≡ false)
-runs_on th mode.Ready ready = (refl, refl)
-runs_on th mode.Waiting ready = absurd (false≢true ready)
-runs_on th mode.Halted ready = absurd (false≢true ready)
-runs_on th mode.Faulted ready = absurd (false≢true ready)
-runs_on th mode.Spent ready = absurd (false≢true ready)
 
 pub both_true : (x y : Bool) → (x && y) ≡ true → (x ≡ true) × (y ≡ true)
 both_true true true both = (refl, refl)
 both_true true false both = absurd (false≢true both)
 both_true false y both = absurd (false≢true both)
 
-none_is : {X : Type 0} (o : Option X) → is_none o ≡ true → o ≡ None
-none_is None none = refl
-none_is (Some x) none = absurd (false≢true none)
-
--- a call without room has the status that says so
-full_call : (cfg : Config) (who : Who) (part : BoxPart) (m : Shared) (th : ThreadState) (i : Instr) (n : ℕ) (gate : RpcGate) → who.room ≡ false → called_gateway i ≡ Some n → gateway_for who.home.0 (slice_get cfg.gateways n) ≡ Some gate → is_full_reply (instruction_row cfg who part m th (Some i)).reply ≡ true
-full_call cfg who part m th (instr.RpcCall d k) n gate room calls may =
-    let same : k ≡ n = same_Some k n calls in rw (same, may, room) refl
-full_call cfg who part m th (instr.RpcSync k looks) n gate room calls may =
-    let same : k ≡ n = same_Some k n calls in rw (same, may, room) refl
-full_call cfg who part m th i n gate room calls may = absurd (none-some n calls)
-
 wants_room : (cfg : Config) (f : Flat) (t : ℕ) (w : Want) → fits_without_room cfg f t w ≡ true → (b : BoxId) × (w ≡ want.Room b)
 wants_room cfg f t (want.Room b) fitting = (b, refl)
 wants_room cfg f t want.Plain fitting = absurd (false≢true fitting)
 wants_room cfg f t want.Next fitting = absurd (false≢true fitting)
-
--- what the thread of a box wants says which instruction it is at, and by which gateway that calls
-record CallsBy (cfg : Config) (part : BoxPart) (thread : ThreadPart) (m : Shared) (th : ThreadState) (t : ℕ) : Type 0 where
-  i : Instr
-  n : ℕ
-  gate : RpcGate
-  next : next_instruction part thread m th t ≡ Some i
-  calls : called_gateway i ≡ Some n
-  may : gateway_for thread.home.0 (slice_get cfg.gateways n) ≡ Some gate
 
 plain-room : (b : BoxId) → want.Plain ≡ want.Room b → ⊥
 plain-room b same = cc
@@ -128,83 +95,82 @@ plain-room b same = cc
 next-room : (b : BoxId) → want.Next ≡ want.Room b → ⊥
 next-room b same = cc
 
-calls_by : (cfg : Config) (part : BoxPart) (thread : ThreadPart) (m : Shared) (th : ThreadState) (t : ℕ) (b : BoxId) (i : Option Instr) → next_instruction part thread m th t ≡ i → want_of_instruction cfg part thread m t i ≡ want.Room b → CallsBy cfg part thread m th t
-calls_by cfg part thread m th t b None is wants = absurd (plain-room b wants)
-calls_by cfg part thread m th t b (Some i) is wants = by_gateway (called_gateway i) refl wants
-  where
-    by_gate : (n : ℕ) → called_gateway i ≡ Some n → (gate : Option RpcGate) → gateway_for thread.home.0 (slice_get cfg.gateways n) ≡ gate → want_by gate ≡ want.Room b → CallsBy cfg part thread m th t
-    by_gate n calls None may same = absurd (plain-room b same)
-    by_gate n calls (Some gate) may same = record { i = i; n = n; gate = gate; next = is; calls = calls; may = may }
+-- a call without room has the status that says so
+full-post : (who : Who) (m : Shared) (th after : ThreadState) (b : BoxId) (gate : Option RpcGate) → who.room ≡ false →
+    want_room gate ≡ want.Room b → is_full_reply (rpc_post_row who m th after gate).reply ≡ true
+full-post who m th after b None room wants = absurd (plain-room b wants)
+full-post who m th after b (Some gate) room wants = rw room refl
 
-    by_gateway : (n : Option ℕ) → called_gateway i ≡ n → want_for cfg thread (takes_a_call i && nat_eq t part.server.0 && is_none (served_ticket m thread.home.0)) n ≡ want.Room b → CallsBy cfg part thread m th t
-    by_gateway None calls same = absurd (neither (takes_a_call i && nat_eq t part.server.0 && is_none (served_ticket m thread.home.0)) same)
-      where
-        neither : (takes : Bool) → (if takes then want.Next else want.Plain) ≡ want.Room b → ⊥
-        neither true same = next-room b same
-        neither false same = plain-room b same
-    by_gateway (Some n) calls same = by_gate n calls (gateway_for thread.home.0 (slice_get cfg.gateways n)) refl same
+take-room : (b : BoxId) (takes : Bool) → want_next takes ≡ want.Room b → ⊥
+take-room b true wants = next-room b wants
+take-room b false wants = plain-room b wants
 
-full_turn : (cfg : Config) (who : Who) (part : BoxPart) (thread : ThreadPart) (m : Shared) (th : ThreadState) → who.home ≡ thread.home → who.room ≡ false → CallsBy cfg part thread m th who.thread.0 → is_full_reply (turn_row cfg who part thread m th).reply ≡ true
-full_turn cfg who part thread m th home room by = elim (cases_Bool (is_ready th.mode && is_none (due_interrupt m.lines part thread.home.0 who.thread.0))) [
-  | inl may ↦ going (both_true (is_ready th.mode) (is_none (due_interrupt m.lines part thread.home.0 who.thread.0)) may) (rw may at by.next)
-  | inr may_not ↦ absurd (none-some by.i (rw may_not at by.next))
-]
-  where
-    going : (is_ready th.mode ≡ true) × (is_none (due_interrupt m.lines part thread.home.0 who.thread.0) ≡ true) → slice_get thread.program th.pc ≡ Some by.i → is_full_reply (turn_row cfg who part thread m th).reply ≡ true
-    going ready at =
-        let runs = runs_on th th.mode ready.0 in
-        let quiet : due_interrupt m.lines part who.home.0 who.thread.0 ≡ None = ap (λ h. due_interrupt m.lines part h.0 who.thread.0) home ∙ none_is (due_interrupt m.lines part thread.home.0 who.thread.0) ready.1 in
-        let may : gateway_for who.home.0 (slice_get cfg.gateways by.n) ≡ Some by.gate = ap (λ h. gateway_for h.0 (slice_get cfg.gateways by.n)) home ∙ by.may in
-        rw (runs.0, runs.1, quiet, at) (full_call cfg who part m (counted th) by.i by.n by.gate room by.calls may)
+full-call : (cfg : Config) (asks who : Who) (part : BoxPart) (m : Shared) (th : ThreadState) (b : BoxId) (c : KernelCall) →
+    who.room ≡ false → asks.home ≡ who.home → want_by_call cfg asks part m c ≡ want.Room b →
+    is_full_reply (kernel_row cfg who part m th c).reply ≡ true
+full-call cfg asks who part m th b (call.PagesAlloc n t) room home wants = absurd (plain-room b wants)
+full-call cfg asks who part m th b (call.PageFree a) room home wants = absurd (plain-room b wants)
+full-call cfg asks who part m th b (call.IrqOn n) room home wants = absurd (plain-room b wants)
+full-call cfg asks who part m th b (call.IrqOff n) room home wants = absurd (plain-room b wants)
+full-call cfg asks who part m th b call.IrqReturn room home wants = absurd (plain-room b wants)
+full-call cfg asks who part m th b (call.GwRead d n) room home wants = absurd (plain-room b wants)
+full-call cfg asks who part m th b (call.GwWrite s n) room home wants = absurd (plain-room b wants)
+full-call cfg asks who part m th b (call.RpcCall d n) room home wants =
+    full-post who m th (posted th d) b (gateway_for who.home.0 (slice_get cfg.gateways n)) room
+    (sym (ap (λ (h : BoxId). want_room (gateway_for h.0 (slice_get cfg.gateways n))) home) ∙ wants)
+full-call cfg asks who part m th b (call.RpcSync n looks) room home wants =
+    full-post who m th (posted_and_waiting th looks) b (gateway_for who.home.0 (slice_get cfg.gateways n)) room
+    (sym (ap (λ (h : BoxId). want_room (gateway_for h.0 (slice_get cfg.gateways n))) home) ∙ wants)
+full-call cfg asks who part m th b call.RpcTake room home wants =
+    absurd (take-room b (is_server asks part && is_none (served_ticket m.serving asks.home.0)) wants)
+full-call cfg asks who part m th b (call.RpcReturn s) room home wants = absurd (plain-room b wants)
+full-call cfg asks who part m th b (call.RpcResult d s) room home wants = absurd (plain-room b wants)
 
-full_in : (cfg : Config) (f : Flat) (t : ThreadId) (thread : ThreadPart) (th : ThreadState) (part : Option BoxPart) (b : BoxId) → want_in cfg f.shared t.0 thread th part ≡ want.Room b → is_full_reply (turn_in cfg f t false thread th part).1 ≡ true
-full_in cfg f t thread th None b wants = absurd (plain-room b wants)
-full_in cfg f t thread th (Some part) b wants =
-    full_turn cfg (record { home = thread.home; thread = t; room = false }) part thread f.shared th refl refl
-    (calls_by cfg part thread f.shared th t.0 b (next_instruction part thread f.shared th t.0) refl wants)
+full-row : (cfg : Config) (asks who : Who) (part : BoxPart) (m : Shared) (th : ThreadState) (b : BoxId) (granted : Bool) (n : Next) →
+    who.room ≡ false → asks.home ≡ who.home → want_by cfg asks part m n ≡ want.Room b →
+    is_full_reply (row_of cfg who part m th granted n).reply ≡ true
+full-row cfg asks who part m th b granted next.Look room home wants = absurd (plain-room b wants)
+full-row cfg asks who part m th b granted (next.Deliver irq) room home wants = absurd (plain-room b wants)
+full-row cfg asks who part m th b granted (next.Local i) room home wants = absurd (plain-room b wants)
+full-row cfg asks who part m th b granted (next.Access access) room home wants = absurd (plain-room b wants)
+full-row cfg asks who part m th b granted (next.Unaligned at) room home wants = absurd (plain-room b wants)
+full-row cfg asks who part m th b granted (next.Kernel c) room home wants = full-call cfg asks who part m th b c room home wants
+full-row cfg asks who part m th b granted next.Nowhere room home wants = absurd (plain-room b wants)
 
-full_at : (cfg : Config) (f : Flat) (t : ThreadId) (thread : Option ThreadPart) (th : Option ThreadState) (b : BoxId) → want_at cfg f.shared t.0 thread th ≡ want.Room b → is_full_reply (turn_at cfg f t false thread th).1 ≡ true
-full_at cfg f t None th b wants = absurd (plain-room b wants)
-full_at cfg f t (Some thread) None b wants = absurd (plain-room b wants)
-full_at cfg f t (Some thread) (Some th) b wants = full_in cfg f t thread th (slice_get cfg.boxes thread.home.0) b wants
+full-turn : (cfg : Config) (f : Flat) (t : ThreadId) (a : Option Actor) (b : BoxId) → want_of_actor cfg f.shared t a ≡ want.Room b →
+    is_full_reply (turn_by cfg f t false a).1 ≡ true
+full-turn cfg f t None b wants = absurd (plain-room b wants)
+full-turn cfg f t (Some a) b wants =
+    let n = next_of_actor f.shared.lines a t.0 in
+    full-row cfg (who_acts a t true) (who_acts a t false) a.part f.shared (counted a.thread) b
+    (holds_next cfg.board a.program.home.0 a.part f.shared.owners n) n refl refl wants
 
 -- ---- a server's events
 
--- the thread is there, and so is its state
-IsServed : Option ThreadPart → Option ThreadState → Type 0
-IsServed (Some thread) (Some th) = Unit {0}
-IsServed _ _ = ⊥
-
-served_from_next : (cfg : Config) (m : Shared) (t : ℕ) (thread : Option ThreadPart) (th : Option ThreadState) → wants_next (want_at cfg m t thread th) ≡ true → IsServed thread th
-unfolding IsServed
-served_from_next cfg m t None th next = absurd (false≢true next)
-served_from_next cfg m t (Some thread) None next = absurd (false≢true next)
-served_from_next cfg m t (Some thread) (Some th) next = tt
-
-start-named : (cfg : Config) (home : ℕ) (m : Shared) (th : ThreadState) (ticket : Ticket) → is_start_reply (home_of cfg ticket.thread.0) (server_row cfg home m th (Some ticket)).reply ≡ true
-start-named cfg home m th ticket = by_call (oldest_posted_by ticket.thread.0 home m.calls) refl
+start-named : (cfg : Config) (b : ℕ) (m : Shared) (th : ThreadState) (ticket : Ticket) →
+    is_start_reply (home_of cfg ticket.thread.0) (server_row cfg b m th (Some ticket)).reply ≡ true
+start-named cfg b m th ticket = by_call (oldest_posted_by ticket.thread.0 b m.calls) refl
   where
-    by_call : (call : Option Call) → oldest_posted_by ticket.thread.0 home m.calls ≡ call → is_start_reply (home_of cfg ticket.thread.0) (start_row cfg home m th ticket call).reply ≡ true
+    by_call : (call : Option Call) → oldest_posted_by ticket.thread.0 b m.calls ≡ call →
+        is_start_reply (home_of cfg ticket.thread.0) (start_row cfg b m th ticket (call_with ticket call)).reply ≡ true
     by_call None is = refl
     by_call (Some call) is =
-        let passes = find-passes (λ (c : Call). is_posted_to home c && nat_eq c.ticket.thread.0 ticket.thread.0) m.calls call is in
-        let same : call.ticket.thread.0 ≡ ticket.thread.0 = eqb-true call.ticket.thread.0 ticket.thread.0 (both_true (is_posted_to home call) (nat_eq call.ticket.thread.0 ticket.thread.0) passes).1 in
-        elim (cases_Bool (nat_eq call.ticket.seq ticket.seq)) [
+        let passes = find-passes (λ (c : Call). is_posted_to b c && nat_eq c.ticket.thread.0 ticket.thread.0) m.calls call is in
+        let same : call.ticket.thread.0 ≡ ticket.thread.0 = eqb-true call.ticket.thread.0 ticket.thread.0 (both_true (is_posted_to b call) (nat_eq call.ticket.thread.0 ticket.thread.0) passes).1 in
+        elim (cases_Bool (same_ticket ticket call.ticket)) [
           | inl next ↦ rw next (eq-eqb (home_of cfg call.ticket.thread.0).0 (home_of cfg ticket.thread.0).0 (ap (λ n. (home_of cfg n).0) same))
           | inr another ↦ rw another refl
         ]
 
-serve-named : (cfg : Config) (f : Flat) (t : ThreadId) (ticket : Ticket) (thread : Option ThreadPart) (th : Option ThreadState) → IsServed thread th → is_start_reply (home_of cfg ticket.thread.0) (serve_at cfg f t (Some ticket) thread th).1 ≡ true
-unfolding IsServed
-serve-named cfg f t ticket None th served = absurd served
-serve-named cfg f t ticket (Some thread) None served = absurd served
-serve-named cfg f t ticket (Some thread) (Some th) served = start-named cfg thread.home.0 f.shared (counted th) ticket
+serve-named : (cfg : Config) (f : Flat) (t : ThreadId) (ticket : Ticket) (a : Option Actor) →
+    wants_next (want_of_actor cfg f.shared t a) ≡ true → is_start_reply (home_of cfg ticket.thread.0) (serve_by cfg f t (Some ticket) a).1 ≡ true
+serve-named cfg f t ticket None next = absurd (false≢true next)
+serve-named cfg f t ticket (Some a) next = start-named cfg a.program.home.0 f.shared (counted a.thread) ticket
 
-idle-named : (cfg : Config) (f : Flat) (t : ThreadId) (thread : Option ThreadPart) (th : Option ThreadState) → IsServed thread th → is_idle_reply (serve_at cfg f t None thread th).1 ≡ true
-unfolding IsServed
-idle-named cfg f t None th served = absurd served
-idle-named cfg f t (Some thread) None served = absurd served
-idle-named cfg f t (Some thread) (Some th) served = refl
+idle-named : (cfg : Config) (f : Flat) (t : ThreadId) (a : Option Actor) →
+    wants_next (want_of_actor cfg f.shared t a) ≡ true → is_idle_reply (serve_by cfg f t None a).1 ≡ true
+idle-named cfg f t None next = absurd (false≢true next)
+idle-named cfg f t (Some a) next = refl
 
 -- ---- every choice
 
@@ -225,25 +191,23 @@ pub entry-named : (cfg : Config) (f : Flat) (c : Choice) → HasNamedLines cfg �
 entry-named cfg f (choice.Turn t true) all fitting =
     let it = both_true (is_thread cfg t) (fits_with_room (want_of cfg f t.0)) fitting in
     subst (λ r. is_named_choice cfg (choice.Turn t true) r ≡ true) (sym (reply_to-fitting cfg f (choice.Turn t true) fitting))
-    (rw it.0 (turn_at-named cfg f t (slice_get cfg.threads t.0) (slice_get f.threads t.0) all))
+    (rw it.0 (turn-named cfg f t (actor_of cfg f t.0) all refl))
 entry-named cfg f (choice.Turn t false) all fitting =
     let it = both_true (is_thread cfg t) (fits_without_room cfg f t.0 (want_of cfg f t.0)) fitting in
     let room = wants_room cfg f t.0 (want_of cfg f t.0) it.1 in
     subst (λ r. is_named_choice cfg (choice.Turn t false) r ≡ true) (sym (reply_to-fitting cfg f (choice.Turn t false) fitting))
-    (rw it.0 (full_at cfg f t (slice_get cfg.threads t.0) (slice_get f.threads t.0) room.0 room.1))
+    (rw it.0 (full-turn cfg f t (actor_of cfg f t.0) room.0 room.1))
 entry-named cfg f (choice.Start t ticket) all fitting =
     let it = both_true (is_thread cfg t && is_thread cfg ticket.thread) (wants_next (want_of cfg f t.0)) fitting in
     let there = both_true (is_thread cfg t) (is_thread cfg ticket.thread) it.0 in
     subst (λ r. is_named_choice cfg (choice.Start t ticket) r ≡ true) (sym (reply_to-fitting cfg f (choice.Start t ticket) fitting))
     (rw (there.0, there.1)
-    (serve-named cfg f t ticket (slice_get cfg.threads t.0) (slice_get f.threads t.0)
-    (served_from_next cfg f.shared t.0 (slice_get cfg.threads t.0) (slice_get f.threads t.0) it.1)))
+    (serve-named cfg f t ticket (actor_of cfg f t.0) it.1))
 entry-named cfg f (choice.Idle t) all fitting =
     let it = both_true (is_thread cfg t) (wants_next (want_of cfg f t.0)) fitting in
     subst (λ r. is_named_choice cfg (choice.Idle t) r ≡ true) (sym (reply_to-fitting cfg f (choice.Idle t) fitting))
     (rw it.0
-    (idle-named cfg f t (slice_get cfg.threads t.0) (slice_get f.threads t.0)
-    (served_from_next cfg f.shared t.0 (slice_get cfg.threads t.0) (slice_get f.threads t.0) it.1)))
+    (idle-named cfg f t (actor_of cfg f t.0) it.1))
 entry-named cfg f (choice.Ring line by) all fitting =
     subst (λ r. is_named_choice cfg (choice.Ring line by) r ≡ true) (sym (reply_to-fitting cfg f (choice.Ring line by) fitting))
     (rw (lt-ltb line.0 LINES (line_there cfg line.0 all fitting)) refl)

@@ -1,6 +1,6 @@
 -- A legal log over a sound configuration names what is there.
 use Rattle.std.proofs.Common.{◌≡◌, ℕ, ◌-◌, Bool, true, false, List, [], ◌∷◌, ◌++◌, length, map, Option, Some, None, refl, sym, ◌∙◌, ap, subst, arith, inl, inr}
-use Rattle.std.specs.Prelude.{MatchOption, if◌then◌else◌, slice_get}
+use Rattle.std.specs.Prelude.{MatchOption, if◌then◌else◌}
 use Rattle.std.specs.List.{AllByRecursion, list_all}
 use Rattle.std.proofs.lemmas.Bool.{cases_Bool, lt-ltb}
 use Rattle.std.proofs.lemmas.List.{length-map, length-replicate, length-set}
@@ -17,16 +17,14 @@ use Rattle.flat_model.specs.declared.events.Logged.{Logged}
 use Rattle.flat_model.specs.declared.events.Logged.TheVariants as item
 use Rattle.flat_model.specs.declared.events.Reply.TheVariants as reply
 use Rattle.flat_model.specs.declared.events.UnitLine.{UnitLine}
-use Rattle.flat_model.specs.declared.instructions.Instr.{Instr}
-use Rattle.flat_model.specs.declared.instructions.Instr.TheVariants as instr
 use Rattle.flat_model.specs.declared.logs.Log.{Log}
+use Rattle.flat_model.specs.declared.next.Next.{Next}
+use Rattle.flat_model.specs.declared.next.Next.TheVariants as next
 use Rattle.flat_model.specs.declared.parts.BoxPart.{BoxPart}
 use Rattle.flat_model.specs.declared.parts.Config.{Config}
-use Rattle.flat_model.specs.declared.parts.ThreadPart.{ThreadPart}
 use Rattle.flat_model.specs.declared.states.Flat.{Flat}
-use Rattle.flat_model.specs.declared.states.ThreadState.{ThreadState}
-use Rattle.flat_model.specs.AccessRows.{access_of, aligned_access}
-use Rattle.flat_model.specs.Access.{is_aligned}
+use Rattle.flat_model.specs.Actors.{Actor, actor_of, who_acts}
+use Rattle.flat_model.specs.CallRows.{server_row}
 use Rattle.flat_model.specs.Decision.{decision, gives_at, matches_at, verdict_of}
 use Rattle.flat_model.specs.Greatest.{Says, greatest}
 use Rattle.flat_model.specs.Legal.{IsLegal, all_fit}
@@ -37,14 +35,20 @@ use Rattle.flat_model.specs.Placing.{common_range}
 use Rattle.flat_model.specs.Plan.{REGIONS, plan_of}
 use Rattle.flat_model.specs.Run.{end_of_thread, opening_state, state_after_all}
 use Rattle.flat_model.specs.Sound.{IsBox, IsSound}
-use Rattle.flat_model.specs.Step.{empties_slots, fitting_step, instruction_in, reply_to, serve_at, server_row, settled, state_after, step, touch_at, touch_of, turn_at, turn_in}
-use Rattle.flat_model.specs.Thread.{counted, opening_thread}
+use Rattle.flat_model.specs.Step.{empties_slots, fitting_step, reply_to, serve_by, settled, state_after, step, touch_by, touch_of, turn_by}
+use Rattle.flat_model.specs.Interrupts.{due_interrupt}
+use Rattle.flat_model.specs.Next.{holds_next, next_of_actor, touch_in}
+use Rattle.flat_model.specs.Thread.{counted}
+use Rattle.flat_model.specs.ThreadEvents.{opening_thread}
 use Rattle.flat_model.specs.Turn.{turn_row, within_budget}
-use Rattle.flat_model.specs.UnitRun.{UnitState, access_line, access_lines, actor_of, box_of_event, accessed, entered, flush_lines, flushed, is_last, lines_of_box, lines_of_run, opening_unit, part_at, rotate_lines, rotated, rotating_pair, switch_lines, unit_after, unit_after_box, unit_lines}
+use Rattle.flat_model.specs.UnitRun.{UnitState, access_line, access_lines, accessed, actor_at, entered, flush_lines, flushed, is_last, lines_of_actor, lines_of_run, opening_unit, rotate_lines, rotated, rotating_pair, switch_lines, unit_after, unit_after_actor, unit_lines}
+use Rattle.flat_model.proofs.AccessReplies.{IsFit, next-fit}
+use Rattle.flat_model.proofs.HeldBytes.{IsSize}
+use Rattle.flat_model.proofs.ReadyWorlds.{part-acting}
 use Rattle.flat_model.proofs.Flushing.{OnCircle-next, length-cleared}
 use Rattle.flat_model.proofs.Greatness.{Says-greatest}
-use Rattle.flat_model.proofs.Turning.{OnCircle}
 use Rattle.flat_model.specs.Want.{fits}
+use Rattle.flat_model.specs.Circle.{OnCircle}
 use Rattle.flat_model.proofs.LegalLogs.{legal-one_log}
 use Rattle.flat_model.proofs.NamedChoices.{HasNamedLines, both_true, entry-named}
 use Rattle.flat_model.proofs.NamedReplies.{HasLines}
@@ -54,8 +58,8 @@ pub record IsShaped (u : UnitState) : Type 0 where
   pub regions : length u.pairs ≡ REGIONS
   pub on : OnCircle REGIONS u.circle
 
-IsShaped-opening : IsShaped opening_unit
-IsShaped-opening = record { regions = refl; on = (omega arith, omega arith) }
+IsShaped-opening : (cfg : Config) → IsShaped (opening_unit cfg)
+IsShaped-opening cfg = record { regions = refl; on = (omega arith, omega arith) }
 
 IsShaped-entered : (cfg : Config) (part : BoxPart) (u : UnitState) (b : BoxId) → IsShaped u → IsShaped (entered cfg part u b)
 IsShaped-entered cfg part u b it = elim (cases_Bool (is_last u.last b.0)) [
@@ -79,19 +83,17 @@ IsShaped-flushed false u it = it
 IsShaped-flushed true u it =
     record { regions = length-cleared (length u.pairs - 3) u.pairs ∙ it.regions; on = (omega arith, omega arith) }
 
-IsShaped-box : (cfg : Config) (f : Flat) (u : UnitState) (c : Choice) (b : Option BoxId) (part : Option BoxPart) → IsShaped u → IsShaped (unit_after_box cfg f u c b part)
-IsShaped-box cfg f u c None part it = it
-IsShaped-box cfg f u c (Some b) None it = it
-IsShaped-box cfg f u c (Some b) (Some part) it =
-    let plan : List Pair = plan_of cfg f.shared.owners b.0 part in
-    IsShaped-flushed (empties_slots cfg f c) (accessed plan (entered cfg part u b) (touch_of cfg f c))
-    (IsShaped-accessed plan (entered cfg part u b) (touch_of cfg f c) (IsShaped-entered cfg part u b it))
+IsShaped-actor : (cfg : Config) (f : Flat) (u : UnitState) (c : Choice) (a : Option Actor) → IsShaped u → IsShaped (unit_after_actor cfg f u c a)
+IsShaped-actor cfg f u c None it = it
+IsShaped-actor cfg f u c (Some a) it =
+    let plan : List Pair = plan_of cfg f.shared.owners a.program.home.0 a.part in
+    IsShaped-flushed (empties_slots cfg f c) (accessed plan (entered cfg a.part u a.program.home) (touch_of cfg f c))
+    (IsShaped-accessed plan (entered cfg a.part u a.program.home) (touch_of cfg f c) (IsShaped-entered cfg a.part u a.program.home it))
 
 -- every event keeps the unit's shape
 pub IsShaped-after : (cfg : Config) (f : Flat) (u : UnitState) (c : Choice) → IsShaped u → IsShaped (unit_after cfg f u c)
 unfolding unit_after
-IsShaped-after cfg f u c it =
-    IsShaped-box cfg f u c (box_of_event cfg f (actor_of c)) (part_at cfg (box_of_event cfg f (actor_of c))) it
+IsShaped-after cfg f u c it = IsShaped-actor cfg f u c (actor_at cfg f c) it
 
 -- ---- the unit's lines
 
@@ -111,35 +113,29 @@ verdict-named pairs a kind regions = by_slot (greatest (matches_at pairs a) (len
 abbrev IsSized : Option Access → Type 0
 IsSized access = MatchOption access (Unit {0}) (λ a. is_size a.size ≡ true)
 
-IsSized-access_of : (th : ThreadState) (i : Instr) → IsSized (access_of th i)
-IsSized-access_of th (instr.Load8 d a w) = refl
-IsSized-access_of th (instr.Load16 d a w) = refl
-IsSized-access_of th (instr.Load32 d a w) = refl
-IsSized-access_of th (instr.Store8 s a w) = refl
-IsSized-access_of th (instr.Store16 s a w) = refl
-IsSized-access_of th (instr.Store32 s a w) = refl
-IsSized-access_of th (instr.Exec a w) = refl
-IsSized-access_of th _ = tt
+size-is : (n : ℕ) → IsSize n → is_size n ≡ true
+size-is n (inl is) = rw is refl
+size-is n (inr (inl is)) = rw is refl
+size-is n (inr (inr is)) = rw is refl
 
-IsSized-aligned : (access : Option Access) → IsSized access → IsSized (aligned_access access)
-IsSized-aligned None it = tt
-IsSized-aligned (Some access) it = elim (cases_Bool (is_aligned access.at access.size)) [
-  | inl aligned ↦ rw aligned it
-  | inr not_aligned ↦ rw not_aligned tt
-]
+IsSized-touch_in : (n : Next) → IsFit n → IsSized (touch_in n)
+IsSized-touch_in next.Look fit = tt
+IsSized-touch_in (next.Deliver irq) fit = tt
+IsSized-touch_in (next.Local i) fit = tt
+IsSized-touch_in (next.Access access) fit = size-is access.size fit.0
+IsSized-touch_in (next.Unaligned at) fit = tt
+IsSized-touch_in (next.Kernel c) fit = tt
+IsSized-touch_in next.Nowhere fit = tt
 
-IsSized-touch_at : (cfg : Config) (f : Flat) (t : ℕ) (thread : Option ThreadPart) (th : Option ThreadState) → IsSized (touch_at cfg f t thread th)
-IsSized-touch_at cfg f t None th = tt
-IsSized-touch_at cfg f t (Some thread) None = tt
-IsSized-touch_at cfg f t (Some thread) (Some th) = by_instruction (instruction_in f t thread th (slice_get cfg.boxes thread.home.0)) refl
-  where
-    by_instruction : (i : Option Instr) → instruction_in f t thread th (slice_get cfg.boxes thread.home.0) ≡ i → IsSized (touch_at cfg f t (Some thread) (Some th))
-    by_instruction None is = rw is tt
-    by_instruction (Some i) is = rw is (IsSized-aligned (access_of th i) (IsSized-access_of th i))
+IsSized-touch_by : (f : Flat) (t : ℕ) (a : Option Actor) → IsSized (touch_by f t a)
+IsSized-touch_by f t None = tt
+IsSized-touch_by f t (Some a) =
+    IsSized-touch_in (next_of_actor f.shared.lines a t)
+    (next-fit a.program a.thread (due_interrupt f.shared.lines a.part a.program.home.0 t))
 
 IsSized-touch_of : (cfg : Config) (f : Flat) (c : Choice) → IsSized (touch_of cfg f c)
 unfolding touch_of
-IsSized-touch_of cfg f (choice.Turn t true) = IsSized-touch_at cfg f t.0 (slice_get cfg.threads t.0) (slice_get f.threads t.0)
+IsSized-touch_of cfg f (choice.Turn t true) = IsSized-touch_by f t.0 (actor_of cfg f t.0)
 IsSized-touch_of cfg f (choice.Turn t false) = tt
 IsSized-touch_of cfg f (choice.Start t ticket) = tt
 IsSized-touch_of cfg f (choice.Idle t) = tt
@@ -177,24 +173,22 @@ flush-named : (cfg : Config) (empties : Bool) → AreNamedLines cfg (flush_lines
 flush-named cfg true = refl
 flush-named cfg false = refl
 
-box-named : (cfg : Config) (f : Flat) (u : UnitState) (c : Choice) (b : Option BoxId) → IsShaped u → AreNamedLines cfg (lines_of_box cfg f u c b (part_at cfg b))
-box-named cfg f u c None it = refl
-box-named cfg f u c (Some b) it = by_part (slice_get cfg.boxes b.0) refl
-  where
-    by_part : (part : Option BoxPart) → slice_get cfg.boxes b.0 ≡ part → AreNamedLines cfg (lines_of_box cfg f u c (Some b) part)
-    by_part None is = refl
-    by_part (Some part) is =
-        let plan : List Pair = plan_of cfg f.shared.owners b.0 part in
-        named-append cfg (switch_lines u b ++ access_lines plan (entered cfg part u b) (touch_of cfg f c)) (flush_lines (empties_slots cfg f c))
-        (named-append cfg (switch_lines u b) (access_lines plan (entered cfg part u b) (touch_of cfg f c))
-        (switch-named cfg u b (lt-ltb b.0 (length cfg.boxes) (slice_get_within cfg.boxes b.0 part is)))
-        (access-named cfg plan (entered cfg part u b) (touch_of cfg f c) (IsShaped-entered cfg part u b it) (IsSized-touch_of cfg f c)))
-        (flush-named cfg (empties_slots cfg f c))
+actor-named : (cfg : Config) (f : Flat) (u : UnitState) (c : Choice) (a : Option Actor) → actor_at cfg f c ≡ a → IsShaped u →
+    AreNamedLines cfg (lines_of_actor cfg f u c a)
+actor-named cfg f u c None acting it = refl
+actor-named cfg f u c (Some a) acting it =
+    let b : BoxId = a.program.home in
+    let plan : List Pair = plan_of cfg f.shared.owners b.0 a.part in
+    named-append cfg (switch_lines u b ++ access_lines plan (entered cfg a.part u b) (touch_of cfg f c)) (flush_lines (empties_slots cfg f c))
+    (named-append cfg (switch_lines u b) (access_lines plan (entered cfg a.part u b) (touch_of cfg f c))
+    (switch-named cfg u b (lt-ltb b.0 (length cfg.boxes) (slice_get_within cfg.boxes b.0 a.part (part-acting cfg f c a acting))))
+    (access-named cfg plan (entered cfg a.part u b) (touch_of cfg f c) (IsShaped-entered cfg a.part u b it) (IsSized-touch_of cfg f c)))
+    (flush-named cfg (empties_slots cfg f c))
 
 -- the unit's lines of any choice name what is there
 pub unit_lines-named : (cfg : Config) (f : Flat) (u : UnitState) (c : Choice) → IsShaped u → AreNamedLines cfg (unit_lines cfg f u c)
 unfolding unit_lines
-unit_lines-named cfg f u c it = box-named cfg f u c (box_of_event cfg f (actor_of c)) it
+unit_lines-named cfg f u c it = actor-named cfg f u c (actor_at cfg f c) refl it
 
 -- ---- whole logs
 
@@ -219,24 +213,22 @@ named-run cfg f u (c ∷ cs) all it fitting =
 length-settled : (f : Flat) (t : ℕ) (out : Outcome) → length (settled f t out).0.threads ≡ length f.threads
 length-settled f t out = length-set f.threads t out.thread
 
-length-turn_in : (cfg : Config) (f : Flat) (t : ThreadId) (room : Bool) (thread : ThreadPart) (th : ThreadState) (part : Option BoxPart) → length (turn_in cfg f t room thread th part).0.threads ≡ length f.threads
-length-turn_in cfg f t room thread th None = refl
-length-turn_in cfg f t room thread th (Some part) = length-settled f t.0 (turn_row cfg (record { home = thread.home; thread = t; room = room }) part thread f.shared th)
+length-turn : (cfg : Config) (f : Flat) (t : ThreadId) (room : Bool) (a : Option Actor) → length (turn_by cfg f t room a).0.threads ≡ length f.threads
+length-turn cfg f t room None = refl
+length-turn cfg f t room (Some a) =
+    let n = next_of_actor f.shared.lines a t.0 in
+    length-settled f t.0 (turn_row cfg (who_acts a t room) a.part a.program.steps f.shared a.thread
+    (holds_next cfg.board a.program.home.0 a.part f.shared.owners n) n)
 
-length-turn_at : (cfg : Config) (f : Flat) (t : ThreadId) (room : Bool) (thread : Option ThreadPart) (th : Option ThreadState) → length (turn_at cfg f t room thread th).0.threads ≡ length f.threads
-length-turn_at cfg f t room None th = refl
-length-turn_at cfg f t room (Some thread) None = refl
-length-turn_at cfg f t room (Some thread) (Some th) = length-turn_in cfg f t room thread th (slice_get cfg.boxes thread.home.0)
-
-length-serve_at : (cfg : Config) (f : Flat) (t : ThreadId) (ticket : Option Ticket) (thread : Option ThreadPart) (th : Option ThreadState) → length (serve_at cfg f t ticket thread th).0.threads ≡ length f.threads
-length-serve_at cfg f t ticket None th = refl
-length-serve_at cfg f t ticket (Some thread) None = refl
-length-serve_at cfg f t ticket (Some thread) (Some th) = length-settled f t.0 (within_budget thread.steps (server_row cfg thread.home.0 f.shared (counted th) ticket))
+length-serve : (cfg : Config) (f : Flat) (t : ThreadId) (ticket : Option Ticket) (a : Option Actor) → length (serve_by cfg f t ticket a).0.threads ≡ length f.threads
+length-serve cfg f t ticket None = refl
+length-serve cfg f t ticket (Some a) =
+    length-settled f t.0 (within_budget a.program.steps (server_row cfg a.program.home.0 f.shared (counted a.thread) ticket))
 
 length-fitting_step : (cfg : Config) (f : Flat) (c : Choice) → length (fitting_step cfg f c).0.threads ≡ length f.threads
-length-fitting_step cfg f (choice.Turn t room) = length-turn_at cfg f t room (slice_get cfg.threads t.0) (slice_get f.threads t.0)
-length-fitting_step cfg f (choice.Start t ticket) = length-serve_at cfg f t (Some ticket) (slice_get cfg.threads t.0) (slice_get f.threads t.0)
-length-fitting_step cfg f (choice.Idle t) = length-serve_at cfg f t None (slice_get cfg.threads t.0) (slice_get f.threads t.0)
+length-fitting_step cfg f (choice.Turn t room) = length-turn cfg f t room (actor_of cfg f t.0)
+length-fitting_step cfg f (choice.Start t ticket) = length-serve cfg f t (Some ticket) (actor_of cfg f t.0)
+length-fitting_step cfg f (choice.Idle t) = length-serve cfg f t None (actor_of cfg f t.0)
 length-fitting_step cfg f (choice.Ring line by) = refl
 
 -- a choice neither adds nor takes threads
@@ -271,7 +263,7 @@ pub legal-named : (cfg : Config) (log : Log) → IsSound cfg → IsLegal cfg log
 unfolding log_of_choices
 legal-named cfg log sound legal = record {
   items = subst (λ items. list_all (is_named_item cfg) items ≡ true) (sym (ap (λ (l : Log). l.items) (legal-one_log cfg log legal)))
-      (named-run cfg (opening_state cfg) opening_unit (choices_of log.items) (sound-lines cfg sound) IsShaped-opening legal.flat.fitting);
+      (named-run cfg (opening_state cfg) (opening_unit cfg) (choices_of log.items) (sound-lines cfg sound) (IsShaped-opening cfg) legal.flat.fitting);
   ends = ap length legal.flat.ends ∙ length-map (state_after_all cfg (opening_state cfg) (choices_of log.items)).threads end_of_thread
       ∙ length-state_after_all cfg (opening_state cfg) (choices_of log.items) ∙ length-opening cfg;
 }

@@ -1,54 +1,68 @@
 -- What the reply to a choice that fits can be.
 use Rattle.std.proofs.Common.{◌≡◌, ℕ, zero, suc, ◌+◌, ◌-◌, ◌<◌, ◌≤◌, Bool, true, false, List, [], ◌∷◌, ◌++◌, length, take, drop, replicate, Option, Some, None, refl, ap, arith, inl, inr}
-use Rattle.std.specs.Prelude.{◌&&◌, nat_eq, nat_le, nat_lt, is_none, unwrap_or, MatchOption, if◌then◌else◌, slice_get}
+use Rattle.std.specs.Prelude.{nat_eq, nat_le, nat_lt, is_none, MatchOption, Ok, Err, if◌then◌else◌, slice_get}
 use Rattle.std.specs.List.{AllByRecursion, list_all}
 use Rattle.std.proofs.lemmas.Bool.{cases_Bool, le-leb, leb-true, lt-ltb}
 use Rattle.std.proofs.lemmas.Bool.Decides.{nat_tests}
 use Rattle.std.proofs.lemmas.List.{length-take-le}
 use Rattle.addr_base.specs.declared.identity.BoxId.{BoxId}
+use Rattle.addr_base.specs.declared.identity.ThreadId.{ThreadId}
+use Rattle.addr_base.specs.declared.identity.Ticket.{Ticket}
 use Rattle.addr_base.specs.declared.rights.Kind.{Kind}
 use Rattle.addr_base.specs.declared.rights.Kind.TheVariants.{Read, Write, Fetch}
 use Rattle.flat_model.specs.declared.accesses.Access.{Access}
+use Rattle.flat_model.specs.declared.actors.Who.{Who}
 use Rattle.flat_model.specs.declared.boards.Board.{Board}
 use Rattle.flat_model.specs.declared.boards.HeapPart.{HeapPart}
+use Rattle.flat_model.specs.declared.boards.Word.{Word}
+use Rattle.flat_model.specs.declared.classes.InstrClass.{InstrClass}
+use Rattle.flat_model.specs.declared.classes.InstrClass.TheVariants.{Local, Memory, Kernel}
+use Rattle.flat_model.specs.declared.classes.KernelCall.{KernelCall}
+use Rattle.flat_model.specs.declared.classes.KernelCall.TheVariants as call
+use Rattle.flat_model.specs.declared.classes.LocalInstr.{LocalInstr}
+use Rattle.flat_model.specs.declared.classes.LocalInstr.TheVariants as local
+use Rattle.flat_model.specs.declared.events.Collected.{Collected}
+use Rattle.flat_model.specs.declared.events.Collected.TheVariants as got
+use Rattle.flat_model.specs.declared.events.Reply.TheVariants as reply
 use Rattle.flat_model.specs.declared.instructions.Instr.{Instr}
-use Rattle.flat_model.specs.declared.instructions.Instr.TheVariants as instr
+use Rattle.flat_model.specs.declared.next.Next.{Next}
+use Rattle.flat_model.specs.declared.next.Next.TheVariants as next
 use Rattle.flat_model.specs.declared.parts.BoxPart.{BoxPart}
 use Rattle.flat_model.specs.declared.parts.Config.{Config}
 use Rattle.flat_model.specs.declared.parts.IrqPart.{IrqPart}
-use Rattle.flat_model.specs.declared.parts.RegGate.{RegGate}
 use Rattle.flat_model.specs.declared.parts.RpcGate.{RpcGate}
 use Rattle.flat_model.specs.declared.parts.ThreadPart.{ThreadPart}
 use Rattle.flat_model.specs.declared.states.Awaited.{Awaited}
-use Rattle.flat_model.specs.declared.states.Call.{Call}
 use Rattle.flat_model.specs.declared.states.Context.{Context}
+use Rattle.flat_model.specs.declared.states.Flat.{Flat}
 use Rattle.flat_model.specs.declared.states.Lines.{Lines}
 use Rattle.flat_model.specs.declared.states.Shared.{Shared}
 use Rattle.flat_model.specs.declared.states.ThreadState.{ThreadState}
-use Rattle.addr_base.specs.declared.identity.Ticket.{Ticket}
-use Rattle.flat_model.specs.AccessRows.{access_of, access_row, performed_row}
-use Rattle.flat_model.specs.Access.{is_aligned, may_access, owned_by}
-use Rattle.flat_model.specs.Calls.{done_value, open_call}
-use Rattle.flat_model.specs.Interrupts.{due_interrupt, has_line, is_pending, lower_of, lowest_pending, saved_context}
-use Rattle.flat_model.specs.KernelRows.{gateway_for, gateway_read, gateway_written, given_row, gw_read_row, gw_value_row, gw_write_row, gw_written_row, irq_enable_row, irq_return_row, page_free_row, pages_alloc_row, pages_or_none_row, register_for, rpc_post_row, rpc_result_row, rpc_return_row, rpc_take_row}
+use Rattle.flat_model.specs.Access.{is_aligned, owns}
+use Rattle.flat_model.specs.AccessRows.{access_row, performed_row}
+use Rattle.flat_model.specs.Actors.{Actor, who_acts}
+use Rattle.flat_model.specs.CallRows.{gateway_for, is_server, no_result_row, look_row, own_ticket, rpc_post_row, rpc_result_row, rpc_return_row, rpc_take_row, served_ticket, serving_of}
+use Rattle.flat_model.specs.Calls.{collected_by}
+use Rattle.flat_model.specs.Classes.{class_of}
+use Rattle.flat_model.specs.Interrupts.{due_interrupt, handled_context, has_line, is_deliverable, lower_of, lowest_deliverable, saved_context}
+use Rattle.flat_model.specs.LineRows.{irq_enable_row, irq_return_row}
 use Rattle.flat_model.specs.Local.{local_row}
 use Rattle.flat_model.specs.Log.{ascends, is_named_frames, is_turn_reply}
-use Rattle.flat_model.specs.Memory.{word_at}
-use Rattle.flat_model.specs.declared.actors.Who.{Who}
-use Rattle.flat_model.specs.Outcome.{Outcome}
-use Rattle.flat_model.specs.Pages.{frame_at, frames_of, free_frames, is_bad_count, least_free, may_write_words}
+use Rattle.flat_model.specs.Next.{access_by, holds_next, next_at, next_by_class, next_of, next_of_actor, next_when_ready}
+use Rattle.flat_model.specs.Outcome.{Outcome, by_itself}
+use Rattle.flat_model.specs.PageRows.{page_free_row, pages_alloc_row}
+use Rattle.flat_model.specs.Pages.{allocation, frame_at, frames_of, frames_or_none, free_frames, is_bad_count, least_free, own_frame}
+use Rattle.flat_model.specs.RegisterRows.{gw_read_row, gw_write_row}
+use Rattle.flat_model.specs.Registers.{register_read, register_write}
 use Rattle.flat_model.specs.Run.{LINES}
-use Rattle.flat_model.specs.Thread.{counted, has_ended, is_waiting, register}
-use Rattle.flat_model.specs.Turn.{acting_row, instruction_row, is_server, kernel_row, look_row, own_or_shared_row, own_ticket, ready_row, result_of, served_ticket, shared_row, turn_row, waiting_row}
+use Rattle.flat_model.specs.Step.{turn_of}
+use Rattle.flat_model.specs.Thread.{counted, is_waiting, register}
+use Rattle.flat_model.specs.ThreadEvents.{looking, timed_out}
+use Rattle.flat_model.specs.Turn.{kernel_row, may_write_table, row_of, waiting_row}
 
 -- the reply is that of a turn with room
 abbrev IsTurned : Outcome → Type 0
 IsTurned out = is_turn_reply out.reply ≡ true
-
--- of two outcomes of which either is chosen
-either : (t : Bool) (a b : Outcome) → IsTurned a → IsTurned b → IsTurned (if t then a else b)
-either true a b first second = first
-either false a b first second = second
 
 -- ---- frames
 
@@ -105,18 +119,20 @@ named-frames k xs it some few =
 
 -- ---- the rows
 
-given-turned : (board : Board) (home n : ℕ) (m : Shared) (th : ThreadState) (table : ℕ) (heap : HeapPart) → 1 ≤ n → n ≤ 16 → n ≤ length (free_frames 0 m.owners) → IsTurned (given_row board home m th table heap (take n (free_frames 0 m.owners)))
-given-turned board home n m th table heap some few enough =
-    let long : length (take n (free_frames 0 m.owners)) ≡ n = length-take-le n (free_frames 0 m.owners) enough in
-    named-frames 0 (take n (free_frames 0 m.owners)) (AscendsFrom-take n 0 (free_frames 0 m.owners) (AscendsFrom-free_frames 0 m.owners))
-    (omega (arith, long)) (omega (arith, long))
-
-given-or-none : (board : Board) (home n : ℕ) (m : Shared) (th : ThreadState) (table : ℕ) (heap : Option HeapPart) → 1 ≤ n → n ≤ 16 → IsTurned (pages_or_none_row board home m th table heap (least_free n m.owners))
-given-or-none board home n m th table None some few = refl
-given-or-none board home n m th table (Some heap) some few = elim (cases_Bool (nat_le n (length (free_frames 0 m.owners)))) [
-  | inl enough ↦ rw enough (given-turned board home n m th table heap some few (leb-true n (length (free_frames 0 m.owners)) enough))
+given-turned : (board : Board) (b n : ℕ) (m : Shared) (th : ThreadState) (table : ℕ) (heap : Option HeapPart) → 1 ≤ n → n ≤ 16 →
+    IsTurned (pages_alloc_row board b m th table (frames_or_none heap (least_free n m.owners)))
+given-turned board b n m th table None some few = refl
+given-turned board b n m th table (Some heap) some few = elim (cases_Bool (nat_le n (length (free_frames 0 m.owners)))) [
+  | inl enough ↦ rw enough (given n m.owners some few (leb-true n (length (free_frames 0 m.owners)) enough))
   | inr short ↦ rw short refl
 ]
+  where
+    given : (n : ℕ) (owners : List (Option BoxId)) → 1 ≤ n → n ≤ 16 → n ≤ length (free_frames 0 owners) →
+        is_named_frames (frames_of (take n (free_frames 0 owners))) ≡ true
+    given n owners some few enough =
+        let long : length (take n (free_frames 0 owners)) ≡ n = length-take-le n (free_frames 0 owners) enough in
+        named-frames 0 (take n (free_frames 0 owners)) (AscendsFrom-take n 0 (free_frames 0 owners) (AscendsFrom-free_frames 0 owners))
+        (omega (arith, long)) (omega (arith, long))
 
 good-count : (n : ℕ) → is_bad_count n ≡ false → (1 ≤ n) × (n ≤ 16)
 good-count n good = elim (cases_Bool (nat_le 1 n)) [
@@ -127,40 +143,41 @@ good-count n good = elim (cases_Bool (nat_le 1 n)) [
   | inr none ↦ absurd (grind (arith, nat_tests))
 ]
 
-alloc-turned : (cfg : Config) (home : ℕ) (m : Shared) (th : ThreadState) (n table : ℕ) → IsTurned (pages_alloc_row cfg home m th n table)
-alloc-turned cfg home m th n table = elim (cases_Bool (is_bad_count n)) [
+alloc-turned : (board : Board) (b : ℕ) (m : Shared) (th : ThreadState) (table n : ℕ) (may_write : Bool) →
+    IsTurned (pages_alloc_row board b m th table (allocation board.heap may_write n m.owners))
+alloc-turned board b m th table n may_write = elim (cases_Bool (is_bad_count n)) [
   | inl bad ↦ rw bad refl
-  | inr good ↦ rw good (either (may_write_words cfg m.owners home table n) _ _
-      (given-or-none cfg.board home n m th table cfg.board.heap (good-count n good).0 (good-count n good).1) refl)
+  | inr good ↦ rw good (by_table may_write good)
 ]
+  where
+    by_table : (w : Bool) → is_bad_count n ≡ false → IsTurned (pages_alloc_row board b m th table (if w then frames_or_none board.heap (least_free n m.owners) else Err 6))
+    by_table true good = given-turned board b n m th table board.heap (good-count n good).0 (good-count n good).1
+    by_table false good = refl
 
-free-turned : (home : ℕ) (m : Shared) (th : ThreadState) (frame : Option ℕ) → IsTurned (page_free_row home m th frame)
-free-turned home m th None = refl
-free-turned home m th (Some frame) = either (owned_by home (unwrap_or (slice_get m.owners frame) None)) _ _ refl refl
+free-turned : (m : Shared) (th : ThreadState) (owners : List (Option BoxId)) (b : ℕ) (frame : Option ℕ) →
+    IsTurned (page_free_row m th (own_frame owners b frame))
+free-turned m th owners b None = refl
+free-turned m th owners b (Some frame) = by_owner (owns owners b frame)
+  where
+    by_owner : (own : Bool) → IsTurned (page_free_row m th (if own then Ok frame else Err 8))
+    by_owner true = refl
+    by_owner false = refl
 
-irq-turned : (m : Shared) (th : ThreadState) (irqs : List IrqPart) (line : ℕ) (on : Bool) → IsTurned (irq_enable_row m th irqs line on)
-irq-turned m th irqs line on = either (has_line line irqs) _ _ refl refl
+enable-turned : (m : Shared) (th : ThreadState) (line : ℕ) (on own : Bool) → IsTurned (irq_enable_row m th line on own)
+enable-turned m th line on true = refl
+enable-turned m th line on false = refl
 
-return-turned : (home : ℕ) (m : Shared) (th : ThreadState) (first : Bool) (context : Option Context) → IsTurned (irq_return_row home m th first context)
-return-turned home m th true (Some context) = refl
-return-turned home m th true None = refl
-return-turned home m th false context = refl
+handled-turned : (b : ℕ) (m : Shared) (th : ThreadState) (context : Option Context) → IsTurned (irq_return_row b m th context)
+handled-turned b m th None = refl
+handled-turned b m th (Some context) = refl
 
-gw_value-turned : (m : Shared) (th : ThreadState) (r : ℕ) (value : Option ℕ) → IsTurned (gw_value_row m th r value)
-gw_value-turned m th r None = refl
-gw_value-turned m th r (Some value) = refl
+read-turned : (m : Shared) (th : ThreadState) (r : ℕ) (value : Option ℕ) → IsTurned (gw_read_row m th r value)
+read-turned m th r None = refl
+read-turned m th r (Some value) = refl
 
-gw_read-turned : (board : Board) (m : Shared) (th : ThreadState) (r : ℕ) (gate : Option RegGate) → IsTurned (gw_read_row board m th r gate)
-gw_read-turned board m th r None = refl
-gw_read-turned board m th r (Some gate) = gw_value-turned m th r (gateway_read gate.op (word_at board m.memory gate.at 4) gate.mask)
-
-gw_written-turned : (board : Board) (m : Shared) (th : ThreadState) (at : ℕ) (word : Option ℕ) → IsTurned (gw_written_row board m th at word)
-gw_written-turned board m th at None = refl
-gw_written-turned board m th at (Some word) = refl
-
-gw_write-turned : (board : Board) (m : Shared) (th : ThreadState) (v : ℕ) (gate : Option RegGate) → IsTurned (gw_write_row board m th v gate)
-gw_write-turned board m th v None = refl
-gw_write-turned board m th v (Some gate) = gw_written-turned board m th gate.at (gateway_written gate.op (word_at board m.memory gate.at 4) gate.mask v)
+write-turned : (board : Board) (m : Shared) (th : ThreadState) (word : Option Word) → IsTurned (gw_write_row board m th word)
+write-turned board m th None = refl
+write-turned board m th (Some word) = refl
 
 post-turned : (who : Who) (m : Shared) (th after : ThreadState) (gate : Option RpcGate) → who.room ≡ true → IsTurned (rpc_post_row who m th after gate)
 post-turned who m th after None room = refl
@@ -171,75 +188,70 @@ take-turned m th false serving = refl
 take-turned m th true None = refl
 take-turned m th true (Some ticket) = refl
 
-rpc_return-turned : (home : ℕ) (m : Shared) (th : ThreadState) (v : ℕ) (server : Bool) (serving : Option Ticket) → IsTurned (rpc_return_row home m th v server serving)
-rpc_return-turned home m th v true (Some ticket) = refl
-rpc_return-turned home m th v true None = refl
-rpc_return-turned home m th v false serving = refl
+rpc_return-turned : (b : ℕ) (m : Shared) (th : ThreadState) (v : ℕ) (serving : Option Ticket) → IsTurned (rpc_return_row b m th v serving)
+rpc_return-turned b m th v None = refl
+rpc_return-turned b m th v (Some ticket) = refl
 
-result-turned : (m : Shared) (th : ThreadState) (r : ℕ) (ticket : Ticket) (call : Option Call) → IsTurned (rpc_result_row m th r ticket call)
-result-turned m th r ticket None = refl
-result-turned m th r ticket (Some call) = by_value (done_value call.state) refl
-  where
-    by_value : (value : Option ℕ) → done_value call.state ≡ value → IsTurned (rpc_result_row m th r ticket (Some call))
-    by_value None is = rw is refl
-    by_value (Some value) is = rw is refl
+result-turned : (m : Shared) (th : ThreadState) (r : ℕ) (ticket : Ticket) (answer : Collected) → IsTurned (rpc_result_row m th r ticket answer)
+result-turned m th r ticket got.Waiting = refl
+result-turned m th r ticket (got.Done value) = refl
+result-turned m th r ticket got.NoSuch = refl
 
-kernel-turned : (cfg : Config) (who : Who) (part : BoxPart) (m : Shared) (th : ThreadState) (i : Instr) → who.room ≡ true → IsTurned (kernel_row cfg who part m th i)
-kernel-turned cfg who part m th (instr.PagesAlloc n t) room = alloc-turned cfg who.home.0 m th (register th n) (register th t)
-kernel-turned cfg who part m th (instr.PageFree a) room = free-turned who.home.0 m th (frame_at cfg.board.heap (register th a) m.owners)
-kernel-turned cfg who part m th (instr.IrqOn n) room = irq-turned m th part.irqs n true
-kernel-turned cfg who part m th (instr.IrqOff n) room = irq-turned m th part.irqs n false
-kernel-turned cfg who part m th instr.IrqReturn room = return-turned who.home.0 m th (nat_eq who.thread.0 part.first) (saved_context m.lines who.home.0)
-kernel-turned cfg who part m th (instr.GwRead d n) room = gw_read-turned cfg.board m th d (register_for who.home.0 (slice_get cfg.registers n))
-kernel-turned cfg who part m th (instr.GwWrite s n) room = gw_write-turned cfg.board m th (register th s) (register_for who.home.0 (slice_get cfg.registers n))
-kernel-turned cfg who part m th (instr.RpcCall d n) room = post-turned who m th _ (gateway_for who.home.0 (slice_get cfg.gateways n)) room
-kernel-turned cfg who part m th (instr.RpcSync n looks) room = post-turned who m th _ (gateway_for who.home.0 (slice_get cfg.gateways n)) room
-kernel-turned cfg who part m th instr.RpcTake room = take-turned m th (is_server who part) (served_ticket m who.home.0)
-kernel-turned cfg who part m th (instr.RpcReturn s) room = rpc_return-turned who.home.0 m th (register th s) (is_server who part) (served_ticket m who.home.0)
-kernel-turned cfg who part m th (instr.RpcResult d s) room = result-turned m th d (own_ticket who (register th s)) (open_call (own_ticket who (register th s)) m.calls)
-kernel-turned cfg who part m th _ room = refl
+kernel-turned : (cfg : Config) (who : Who) (part : BoxPart) (m : Shared) (th : ThreadState) (c : KernelCall) → who.room ≡ true → IsTurned (kernel_row cfg who part m th c)
+kernel-turned cfg who part m th (call.PagesAlloc n t) room =
+    alloc-turned cfg.board who.home.0 m th (register th t) (register th n) (may_write_table cfg who part m th n t)
+kernel-turned cfg who part m th (call.PageFree a) room = free-turned m th m.owners who.home.0 (frame_at cfg.board.heap (register th a))
+kernel-turned cfg who part m th (call.IrqOn n) room = enable-turned m th n true (has_line n part.irqs)
+kernel-turned cfg who part m th (call.IrqOff n) room = enable-turned m th n false (has_line n part.irqs)
+kernel-turned cfg who part m th call.IrqReturn room = handled-turned who.home.0 m th (handled_context m.lines part who.home.0 who.thread.0)
+kernel-turned cfg who part m th (call.GwRead d n) room = read-turned m th d (register_read cfg.registers cfg.board m.memory who.home.0 n)
+kernel-turned cfg who part m th (call.GwWrite s n) room =
+    write-turned cfg.board m th (register_write cfg.registers cfg.board m.memory who.home.0 n (register th s))
+kernel-turned cfg who part m th (call.RpcCall d n) room = post-turned who m th _ (gateway_for who.home.0 (slice_get cfg.gateways n)) room
+kernel-turned cfg who part m th (call.RpcSync n looks) room = post-turned who m th _ (gateway_for who.home.0 (slice_get cfg.gateways n)) room
+kernel-turned cfg who part m th call.RpcTake room = take-turned m th (is_server who part) (served_ticket m.serving who.home.0)
+kernel-turned cfg who part m th (call.RpcReturn s) room = rpc_return-turned who.home.0 m th (register th s) (serving_of who part m.serving)
+kernel-turned cfg who part m th (call.RpcResult d s) room =
+    result-turned m th d (own_ticket who (register th s)) (collected_by (own_ticket who (register th s)) m.calls)
 
 performed-turned : (board : Board) (m : Shared) (th : ThreadState) (access : Access) (kind : Kind) → IsTurned (performed_row board m th access kind)
 performed-turned board m th access Read = refl
 performed-turned board m th access Write = refl
 performed-turned board m th access Fetch = refl
 
-access-turned : (cfg : Config) (home : ℕ) (m : Shared) (th : ThreadState) (access : Access) → IsTurned (access_row cfg home m th access)
-access-turned cfg home m th access =
-    either (is_aligned access.at access.size) _ _
-    (either (may_access cfg m.owners home access.at access.size access.kind) _ _ (performed-turned cfg.board m th access access.kind) refl)
-    refl
+access-turned : (board : Board) (m : Shared) (th : ThreadState) (access : Access) (granted : Bool) → IsTurned (access_row board m th access granted)
+access-turned board m th access true = performed-turned board m th access access.kind
+access-turned board m th access false = refl
 
-shared-turned : (cfg : Config) (who : Who) (part : BoxPart) (m : Shared) (th : ThreadState) (i : Instr) (access : Option Access) → who.room ≡ true → IsTurned (shared_row cfg who part m th i access)
-shared-turned cfg who part m th i None room = kernel-turned cfg who part m th i room
-shared-turned cfg who part m th i (Some access) room = access-turned cfg who.home.0 m th access
+local-turned : (m : Shared) (th : ThreadState) (home : ℕ) (i : LocalInstr) → IsTurned (by_itself m (local_row th home i))
+local-turned m th home (local.Set d w) = refl
+local-turned m th home (local.Mov d s) = refl
+local-turned m th home (local.Add d a b) = refl
+local-turned m th home (local.Sub d a b) = refl
+local-turned m th home (local.And d a b) = refl
+local-turned m th home (local.Orr d a b) = refl
+local-turned m th home (local.Eor d a b) = refl
+local-turned m th home (local.Jump n) = refl
+local-turned m th home (local.Jz a n) = refl
+local-turned m th home (local.Jnz a n) = refl
+local-turned m th home (local.BoxId d) = refl
+local-turned m th home local.Halt = refl
 
-own-turned : (cfg : Config) (who : Who) (part : BoxPart) (m : Shared) (th : ThreadState) (i : Instr) → who.room ≡ true → IsTurned (own_or_shared_row cfg who part m th i (local_row th who.home.0 i))
-own-turned cfg who part m th (instr.Set d w) room = refl
-own-turned cfg who part m th (instr.Mov d s) room = refl
-own-turned cfg who part m th (instr.Add d a b) room = refl
-own-turned cfg who part m th (instr.Sub d a b) room = refl
-own-turned cfg who part m th (instr.And d a b) room = refl
-own-turned cfg who part m th (instr.Orr d a b) room = refl
-own-turned cfg who part m th (instr.Eor d a b) room = refl
-own-turned cfg who part m th (instr.Jump n) room = refl
-own-turned cfg who part m th (instr.Jz a n) room = refl
-own-turned cfg who part m th (instr.Jnz a n) room = refl
-own-turned cfg who part m th (instr.BoxId d) room = refl
-own-turned cfg who part m th instr.Halt room = refl
-own-turned cfg who part m th i room = shared-turned cfg who part m th i (access_of th i) room
+late-turned : (m : Shared) (th : ThreadState) (awaited : Awaited) → IsTurned (by_itself m (no_result_row th awaited))
+late-turned m th awaited = by_looks (nat_eq (awaited.looks - 1) 0)
+  where
+    by_looks : (b : Bool) → IsTurned (by_itself m (if b then (timed_out th awaited.seq, reply.Status 1) else (looking th awaited.seq (awaited.looks - 1), reply.Waiting)))
+    by_looks true = refl
+    by_looks false = refl
 
-instruction-turned : (cfg : Config) (who : Who) (part : BoxPart) (m : Shared) (th : ThreadState) (i : Option Instr) → who.room ≡ true → IsTurned (instruction_row cfg who part m th i)
-instruction-turned cfg who part m th None room = refl
-instruction-turned cfg who part m th (Some i) room = own-turned cfg who part m th i room
-
-look-turned : (who : Who) (m : Shared) (th : ThreadState) (awaited : Awaited) (value : Option ℕ) → IsTurned (look_row who m th awaited value)
-look-turned who m th awaited None = either (nat_eq (awaited.looks - 1) 0) _ _ refl refl
-look-turned who m th awaited (Some value) = refl
+look-turned : (who : Who) (m : Shared) (th : ThreadState) (awaited : Awaited) (answer : Collected) → IsTurned (look_row who m th awaited answer)
+look-turned who m th awaited got.Waiting = late-turned m th awaited
+look-turned who m th awaited (got.Done value) = refl
+look-turned who m th awaited got.NoSuch = late-turned m th awaited
 
 waiting-turned : (who : Who) (m : Shared) (th : ThreadState) (awaited : Option Awaited) → IsTurned (waiting_row who m th awaited)
 waiting-turned who m th None = refl
-waiting-turned who m th (Some awaited) = look-turned who m th awaited (result_of (open_call (own_ticket who awaited.seq) m.calls))
+waiting-turned who m th (Some awaited) = look-turned who m th awaited (collected_by (own_ticket who awaited.seq) m.calls)
 
 -- every line of these is one that there is
 abbrev pub HasLines : List IrqPart → Type 0
@@ -256,29 +268,72 @@ lower-line irq (Some other) first second = elim (cases_Bool (nat_lt other.line.0
   | inr higher ↦ rw higher first
 ]
 
-lowest-line : (lines : Lines) (irqs : List IrqPart) → HasLines irqs → IsLine (lowest_pending lines irqs)
+lowest-line : (lines : Lines) (irqs : List IrqPart) → HasLines irqs → IsLine (lowest_deliverable lines irqs)
 lowest-line lines [] all = tt
-lowest-line lines (irq ∷ irqs) all = elim (cases_Bool (is_pending lines irq.line.0)) [
-  | inl pending ↦ rw pending (lower-line irq (lowest_pending lines irqs) all.0 (lowest-line lines irqs all.1))
+lowest-line lines (irq ∷ irqs) all = elim (cases_Bool (is_deliverable lines irq.line.0)) [
+  | inl due ↦ rw due (lower-line irq (lowest_deliverable lines irqs) all.0 (lowest-line lines irqs all.1))
   | inr quiet ↦ rw quiet (lowest-line lines irqs all.1)
 ]
 
 due-line : (lines : Lines) (part : BoxPart) (b thread : ℕ) → HasLines part.irqs → IsLine (due_interrupt lines part b thread)
-due-line lines part b thread all = elim (cases_Bool (nat_eq thread part.first && is_none (saved_context lines b))) [
-  | inl may ↦ rw may (lowest-line lines part.irqs all)
-  | inr not_now ↦ rw not_now tt
+due-line lines part b thread all = elim (cases_Bool (nat_eq thread part.first)) [
+  | inl first ↦ rw first (by_handler (is_none (saved_context lines b)))
+  | inr other ↦ rw other tt
 ]
+  where
+    by_handler : (free : Bool) → IsLine (if free then lowest_deliverable lines part.irqs else None)
+    by_handler true = lowest-line lines part.irqs all
+    by_handler false = tt
 
-ready-turned : (cfg : Config) (who : Who) (part : BoxPart) (thread : ThreadPart) (m : Shared) (th : ThreadState) (irq : Option IrqPart) → who.room ≡ true → IsLine irq → IsTurned (ready_row cfg who part thread m th irq)
-ready-turned cfg who part thread m th None room line = instruction-turned cfg who part m th (slice_get thread.program th.pc) room
-ready-turned cfg who part thread m th (Some irq) room line = lt-ltb irq.line.0 LINES line
+-- what a turn comes to delivers a line that there is, if it delivers one
+abbrev pub IsNamedNext : Next → Type 0
+IsNamedNext next.Look = Unit {0}
+IsNamedNext (next.Deliver irq) = irq.line.0 < LINES
+IsNamedNext (next.Local i) = Unit {0}
+IsNamedNext (next.Access access) = Unit {0}
+IsNamedNext (next.Unaligned at) = Unit {0}
+IsNamedNext (next.Kernel c) = Unit {0}
+IsNamedNext next.Nowhere = Unit {0}
 
-acting-turned : (cfg : Config) (who : Who) (part : BoxPart) (thread : ThreadPart) (m : Shared) (th : ThreadState) → who.room ≡ true → HasLines part.irqs → IsTurned (acting_row cfg who part thread m th)
-acting-turned cfg who part thread m th room lines =
-    either (is_waiting th.mode) _ _ (waiting-turned who m th th.awaited)
-    (ready-turned cfg who part thread m th (due_interrupt m.lines part who.home.0 who.thread.0) room (due-line m.lines part who.home.0 who.thread.0 lines))
+class-named : (th : ThreadState) (c : InstrClass) → IsNamedNext (next_by_class th c)
+class-named th (Local i) = tt
+class-named th (Memory i) = by_test (is_aligned (access_by th i).at (access_by th i).size)
+  where
+    by_test : (b : Bool) → IsNamedNext (if b then next.Access (access_by th i) else next.Unaligned (access_by th i).at)
+    by_test true = tt
+    by_test false = tt
+class-named th (Kernel c) = tt
+
+at-named : (th : ThreadState) (i : Option Instr) → IsNamedNext (next_at th i)
+at-named th None = tt
+at-named th (Some i) = class-named th (class_of i)
+
+ready-named : (program : ThreadPart) (th : ThreadState) (due : Option IrqPart) → IsLine due → IsNamedNext (next_when_ready program th due)
+ready-named program th (Some irq) line = line
+ready-named program th None line = at-named th (slice_get program.program th.pc)
+
+next-named : (program : ThreadPart) (th : ThreadState) (due : Option IrqPart) → IsLine due → IsNamedNext (next_of program th due)
+next-named program th due line = by_mode (is_waiting th.mode)
+  where
+    by_mode : (b : Bool) → IsNamedNext (if b then next.Look else next_when_ready program th due)
+    by_mode true = tt
+    by_mode false = ready-named program th due line
+
+row-turned : (cfg : Config) (who : Who) (part : BoxPart) (m : Shared) (th : ThreadState) (granted : Bool) (n : Next) → who.room ≡ true → IsNamedNext n →
+    IsTurned (row_of cfg who part m th granted n)
+row-turned cfg who part m th granted next.Look room named = waiting-turned who m th th.awaited
+row-turned cfg who part m th granted (next.Deliver irq) room named = lt-ltb irq.line.0 LINES named
+row-turned cfg who part m th granted (next.Local i) room named = local-turned m th who.home.0 i
+row-turned cfg who part m th granted (next.Access access) room named = access-turned cfg.board m th access granted
+row-turned cfg who part m th granted (next.Unaligned at) room named = refl
+row-turned cfg who part m th granted (next.Kernel c) room named = kernel-turned cfg who part m th c room
+row-turned cfg who part m th granted next.Nowhere room named = refl
 
 -- the reply of a turn with room is one that such a turn has
-pub turn-turned : (cfg : Config) (who : Who) (part : BoxPart) (thread : ThreadPart) (m : Shared) (th : ThreadState) → who.room ≡ true → HasLines part.irqs → is_turn_reply (turn_row cfg who part thread m th).reply ≡ true
-turn-turned cfg who part thread m th room lines =
-    either (has_ended th) _ _ refl (acting-turned cfg who part thread m (counted th) room lines)
+pub turn-turned : (cfg : Config) (f : Flat) (t : ThreadId) (a : Actor) → HasLines a.part.irqs →
+    is_turn_reply (turn_of cfg f t true a (next_of_actor f.shared.lines a t.0)).1 ≡ true
+turn-turned cfg f t a lines =
+    let n = next_of_actor f.shared.lines a t.0 in
+    row-turned cfg (who_acts a t true) a.part f.shared (counted a.thread) (holds_next cfg.board a.program.home.0 a.part f.shared.owners n) n refl
+    (next-named a.program a.thread (due_interrupt f.shared.lines a.part a.program.home.0 t.0)
+    (due-line f.shared.lines a.part a.program.home.0 t.0 lines))

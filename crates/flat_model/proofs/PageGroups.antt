@@ -1,5 +1,5 @@
 -- What the region of a page group says.
-use Rattle.std.proofs.Common.{◌≡◌, ℕ, ◌+◌, ◌-◌, ◌*◌, ◌/◌, ◌%◌, ◌^◌, ◌<◌, ◌≤◌, Bool, true, false, refl, ap, subst, arith, inl}
+use Rattle.std.proofs.Common.{◌≡◌, ℕ, ◌+◌, ◌-◌, ◌*◌, ◌/◌, ◌%◌, ◌^◌, ◌<◌, Bool, true, false, refl, ap, subst, arith, inl}
 use Rattle.std.specs.Prelude.{◌&&◌, not, nat_eq, nat_le, nat_lt}
 use Rattle.std.specs.Int.{w8}
 use Rattle.std.proofs.lemmas.Bool.{le-leb, leb-true, ltb-true}
@@ -11,14 +11,8 @@ use Rattle.addr_base.specs.declared.rights.Kind.{Kind}
 use Rattle.addr_base.specs.declared.rights.Kind.TheVariants.{Read, Write, Fetch}
 use Rattle.flat_model.specs.Cover.{exponent_of, group_pair}
 use Rattle.flat_model.specs.Decision.{size_field, is_enabled, is_region, matches, pair_gives}
+use Rattle.flat_model.specs.Circle.{IsPage}
 use Rattle.flat_model.proofs.Fields.{HasFields, HasFields-from_rasr, exponent_of-pow, is_region-fields}
-
--- a page has a power of two of bytes, from 32 to 65536
-pub record IsPage (page : ℕ) : Type 0 where
-  pub exponent : ℕ
-  pub low : 5 ≤ exponent
-  pub high : exponent ≤ 16
-  pub is_power : page ≡ 2 ^ exponent
 
 -- whether the address is in a page of the group whose bit is set
 abbrev pub in_group : ℕ → ℕ → ℕ → ℕ → Bool

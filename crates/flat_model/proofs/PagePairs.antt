@@ -13,15 +13,11 @@ use Rattle.addr_base.specs.declared.rights.Kind.{Kind}
 use Rattle.flat_model.specs.declared.boards.HeapPart.{HeapPart}
 use Rattle.flat_model.specs.Cover.{group_pair}
 use Rattle.flat_model.specs.Decision.{is_region, matches, pair_gives}
-use Rattle.flat_model.specs.Plan.{owned_mask, owns, page_group, page_pairs}
+use Rattle.flat_model.specs.Access.{owns}
+use Rattle.flat_model.specs.Plan.{owned_mask, page_group, page_pairs}
+use Rattle.flat_model.specs.Circle.{IsGrouped, IsPage}
 use Rattle.flat_model.proofs.Elements.{each-flat_map}
-use Rattle.flat_model.proofs.PageGroups.{IsPage, gives_pages, in_group, is_region-group, matches-group, pair_gives-group}
-
--- a heap of whole groups whose base is a multiple of a group
-pub record IsGrouped (heap : HeapPart) : Type 0 where
-  pub page_is : IsPage heap.page
-  pub groups : heap.count % 8 ≡ 0
-  pub whole : heap.base % (8 * heap.page) ≡ 0
+use Rattle.flat_model.proofs.PageGroups.{gives_pages, in_group, is_region-group, matches-group, pair_gives-group}
 
 -- whether the address is in the heap
 abbrev pub in_all_pages : HeapPart → ℕ → Bool

@@ -16,10 +16,10 @@ use Rattle.flat_model.specs.declared.parts.Item.{Item}
 use Rattle.flat_model.specs.Items.{items_of}
 use Rattle.flat_model.specs.Placing.{ArePlaced, common_range, limit_of, placed_end}
 use Rattle.flat_model.specs.Sound as sound
+use Rattle.flat_model.specs.Circle.{IsGrouped, IsPage}
 use Rattle.flat_model.proofs.Covers.{IsOneBlock, IsTiled}
 use Rattle.flat_model.proofs.Elements.{each-get, each_weaker}
-use Rattle.flat_model.proofs.PageGroups.{IsPage}
-use Rattle.flat_model.proofs.PagePairs.{IsGrouped, in_all_pages}
+use Rattle.flat_model.proofs.PagePairs.{in_all_pages}
 use Rattle.flat_model.proofs.Powers.{smaller}
 
 -- whether there is a heap and the address is in it
@@ -140,7 +140,7 @@ IsGrouped-from sram h it =
 -- ---- one box of a sound configuration
 
 module _ (cfg : Config) (sound_cfg : sound.IsSound cfg) (b : ℕ) (part : BoxPart) (found : slice_get cfg.boxes b ≡ Some part) where
-  box_of : sound.IsBox cfg.board (common_range cfg.board cfg.boxes) part
+  pub box_of : sound.IsBox cfg.board (common_range cfg.board cfg.boxes) part
   box_of = each-get (sound.IsBox cfg.board (common_range cfg.board cfg.boxes)) cfg.boxes b part sound_cfg.boxes found
 
   own_of : IsOwnIn cfg.board.sram.base (placed_end cfg.board.sram.base cfg.boxes) part.own
@@ -155,15 +155,15 @@ module _ (cfg : Config) (sound_cfg : sound.IsSound cfg) (b : ℕ) (part : BoxPar
   common_low : cfg.board.sram.base ≤ placed_end cfg.board.sram.base cfg.boxes
   common_low = start_le-placed_end cfg.board.sram.base cfg.boxes sound_cfg.placed
 
-  own_in_sram : (a : ℕ) → in_range part.own a ≡ true → in_range cfg.board.sram a ≡ true
+  pub own_in_sram : (a : ℕ) → in_range part.own a ≡ true → in_range cfg.board.sram a ≡ true
   own_in_sram a is =
       in_outer part.own cfg.board.sram a own_of.below (omega (arith, own_of.above, sound_cfg.room, limit.ends)) is
 
-  common_in_sram : (a : ℕ) → in_range (common_range cfg.board cfg.boxes) a ≡ true → in_range cfg.board.sram a ≡ true
+  pub common_in_sram : (a : ℕ) → in_range (common_range cfg.board cfg.boxes) a ≡ true → in_range cfg.board.sram a ≡ true
   common_in_sram a is =
       in_outer (common_range cfg.board cfg.boxes) cfg.board.sram a common_low (omega (arith, common_end, limit.ends)) is
 
-  heap_in_sram : (a : ℕ) → in_heap_range cfg.board.heap a ≡ true → (in_range cfg.board.sram a ≡ true) × (limit_of cfg.board ≤ a)
+  pub heap_in_sram : (a : ℕ) → in_heap_range cfg.board.heap a ≡ true → (in_range cfg.board.sram a ≡ true) × (limit_of cfg.board ≤ a)
   heap_in_sram a is = from_heap cfg.board.heap sound_cfg.board.heap limit.heap_low is
     where
       from_heap : (heap : Option HeapPart) → IfSome heap (sound.IsHeap cfg.board.sram) → IfSome heap (λ h. limit_of cfg.board ≡ h.base) → in_heap_range heap a ≡ true → (in_range cfg.board.sram a ≡ true) × (limit_of cfg.board ≤ a)
@@ -175,7 +175,7 @@ module _ (cfg : Config) (sound_cfg : sound.IsSound cfg) (b : ℕ) (part : BoxPar
           (in_range-from cfg.board.sram a (omega (arith, it.low)) (omega (arith, it.high)), omega (arith, low))
 
   -- where a grant lies
-  grant_place : (g : Item) (a : ℕ) → sound.IsGrant cfg.board (common_range cfg.board cfg.boxes) g → in_range g.range a ≡ true → (in_range cfg.board.peripherals a ≡ true) ⊎ (in_range (common_range cfg.board cfg.boxes) a ≡ true)
+  pub grant_place : (g : Item) (a : ℕ) → sound.IsGrant cfg.board (common_range cfg.board cfg.boxes) g → in_range g.range a ≡ true → (in_range cfg.board.peripherals a ≡ true) ⊎ (in_range (common_range cfg.board cfg.boxes) a ≡ true)
   grant_place g a it is = elim it.placed [
     | inl inside ↦ inl (in_outer g.range cfg.board.peripherals a inside.0 inside.1 is)
     | inr inside ↦ inr (in_outer g.range (common_range cfg.board cfg.boxes) a inside.0 inside.1 is)
@@ -201,7 +201,7 @@ module _ (cfg : Config) (sound_cfg : sound.IsSound cfg) (b : ℕ) (part : BoxPar
   sram_not_flash : (a : ℕ) → in_range cfg.board.flash a ≡ true → in_range cfg.board.sram a ≡ true → ⊥
   sram_not_flash a flash sram = false≢true (sym (sound_cfg.board.sram_apart a sram) ∙ flash)
 
-  peripherals_not_sram : (a : ℕ) → in_range cfg.board.sram a ≡ true → in_range cfg.board.peripherals a ≡ true → ⊥
+  pub peripherals_not_sram : (a : ℕ) → in_range cfg.board.sram a ≡ true → in_range cfg.board.peripherals a ≡ true → ⊥
   peripherals_not_sram a sram is = false≢true (sym (sound_cfg.board.peripherals_beside a is) ∙ sram)
 
   -- the box is placed as the mathematics of the unit wants it

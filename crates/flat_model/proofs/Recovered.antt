@@ -12,17 +12,19 @@ use Rattle.addr_base.specs.Range.{in_range}
 use Rattle.flat_model.specs.declared.boards.HeapPart.{HeapPart}
 use Rattle.flat_model.specs.declared.parts.BoxPart.{BoxPart}
 use Rattle.flat_model.specs.declared.parts.Config.{Config}
-use Rattle.flat_model.specs.Access.{may_access}
+use Rattle.flat_model.specs.Access.{holds, owns}
 use Rattle.flat_model.specs.Decision.{decision, is_granted}
-use Rattle.flat_model.specs.Plan.{REGIONS, first_serving, flash_pair, grant_pairs, overlay_pair, own_pair, owns, page_pairs, plan_of, switch_slots}
-use Rattle.flat_model.proofs.Granted.{HasOwners, may_access-held}
+use Rattle.flat_model.specs.Plan.{REGIONS, first_serving, flash_pair, grant_pairs, overlay_pair, own_pair, page_pairs, plan_of, switch_slots}
+use Rattle.flat_model.proofs.Granted.{holds-held}
+use Rattle.flat_model.specs.Pages.{HasOwners}
+use Rattle.flat_model.specs.Circle.{IsGrouped, IsTurnedBy, OnCircle}
 use Rattle.flat_model.proofs.PageGroups.{gives_pages}
-use Rattle.flat_model.proofs.PagePairs.{IsGrouped, OfPages, each-page_pairs, in_all_pages}
+use Rattle.flat_model.proofs.PagePairs.{OfPages, each-page_pairs, in_all_pages}
 use Rattle.flat_model.proofs.Pieces.{held_by, held_by-at, none_held}
 use Rattle.flat_model.proofs.Placed.{IsPlaced, in_heap_range}
 use Rattle.flat_model.proofs.Recovery.{IsHeapApart, IsHonest, IsLoose, IsLoose-from_honest, granted-recovered, recovers}
 use Rattle.flat_model.proofs.Suited.{ArePiecesApart-pieces_of, IsSuited-placed, each_grant_pair, each_piece_off, in_own_pages, matches-flash, matches-own, page_piece, pieces_of}
-use Rattle.flat_model.proofs.Turning.{IsTurnedBy, IsTurnedBy-weaker, OnCircle, touched_pairs}
+use Rattle.flat_model.proofs.Turning.{IsTurnedBy-weaker, touched_pairs}
 
 -- the pair is of the box's plan for some owners
 abbrev pub IsPlanned : Config → ℕ → BoxPart → Pair → Type 0
@@ -69,15 +71,15 @@ module _ (cfg : Config) (owners : List (Option BoxId)) (b : ℕ) (part : BoxPart
     loose = IsTurnedBy-weaker (IsPlanned cfg b part) (IsLoose (held_by (pieces_of cfg.board part owners b)) (in_heap_range cfg.board.heap)) IsLoose-planned (switch_slots cfg part) pairs turned
 
     -- After a denial a pair of the plan serves exactly where the box holds the byte.
-    pub is_some-recovered : is_some (first_serving a kind (plan_of cfg owners b part)) ≡ may_access cfg owners b a 1 kind
+    pub is_some-recovered : is_some (first_serving a kind (plan_of cfg owners b part)) ≡ holds cfg owners b a 1 kind
     is_some-recovered =
         recovers (held_by (pieces_of cfg.board part owners b)) (in_heap_range cfg.board.heap) REGIONS (flash_pair cfg.board) (own_pair part) (overlay_pair cfg.board part) (plan_of cfg owners b part)
         (omega arith) (IsSuited-placed cfg.board part owners b placed) IsHeapApart-placed pairs a kind loose denied
-        ∙ sym (may_access-held cfg owners b a 1 kind part found placed all (inl refl) (omega arith))
+        ∙ sym (holds-held cfg owners b a 1 kind part found placed all (inl refl) (omega arith))
 
     -- With that pair in the circle the unit grants exactly what the box holds.
-    pub is_granted-recovered : (c : ℕ) → OnCircle REGIONS c → is_granted (decision (touched_pairs (plan_of cfg owners b part) pairs c a kind) a kind) ≡ may_access cfg owners b a 1 kind
+    pub is_granted-recovered : (c : ℕ) → OnCircle REGIONS c → is_granted (decision (touched_pairs (plan_of cfg owners b part) pairs c a kind) a kind) ≡ holds cfg owners b a 1 kind
     is_granted-recovered c on =
         granted-recovered (held_by (pieces_of cfg.board part owners b)) (in_heap_range cfg.board.heap) REGIONS (flash_pair cfg.board) (own_pair part) (overlay_pair cfg.board part) (plan_of cfg owners b part)
         (omega arith) (IsSuited-placed cfg.board part owners b placed) IsHeapApart-placed pairs a kind c loose on denied
-        ∙ sym (may_access-held cfg owners b a 1 kind part found placed all (inl refl) (omega arith))
+        ∙ sym (holds-held cfg owners b a 1 kind part found placed all (inl refl) (omega arith))

@@ -9,9 +9,10 @@ use Rattle.addr_base.specs.declared.pairs.Verdict.TheVariants.{Granted, Denied}
 use Rattle.addr_base.specs.declared.rights.Kind.{Kind}
 use Rattle.flat_model.specs.Decision.{decision, is_granted, matches, pair_gives}
 use Rattle.flat_model.specs.Plan.{first_serving, serves, slots_from}
+use Rattle.flat_model.specs.Circle.{IsTurnedBy, OnCircle}
 use Rattle.flat_model.proofs.Elements.{each-get, list_any_found, slice_get-set_same}
 use Rattle.flat_model.proofs.PageGroups.{gives_pages}
-use Rattle.flat_model.proofs.Turning.{IsDecided, IsDecider, IsTurnedBy, IsTurnedBy-set, IsTurnedBy-weaker, OnCircle, decided, length-slots_from, matches_at-some, touched_pairs}
+use Rattle.flat_model.proofs.Turning.{IsDecided, IsDecider, IsTurnedBy-set, IsTurnedBy-weaker, decided, length-slots_from, matches_at-some, touched_pairs}
 
 -- wherever the pair matches, it gives exactly what is held
 abbrev pub IsHonest : (ℕ → Kind → Bool) → Pair → Type 0

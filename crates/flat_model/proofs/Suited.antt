@@ -20,11 +20,12 @@ use Rattle.flat_model.specs.Cover.{NO_ACCESS, cover_of, pair_of}
 use Rattle.flat_model.specs.Decision.{matches, pair_gives}
 use Rattle.flat_model.specs.Plan.{flash_pair, grant_pairs, no_pair, overlay_pair, own_pair, page_pairs, serves}
 use Rattle.flat_model.specs.Sound.{AreGrantsApart}
+use Rattle.flat_model.specs.Circle.{IsGrouped}
 use Rattle.flat_model.proofs.Covers.{OfCover, each-cover_of, list_any-cover_of, matches-hidden, matches-pair_of_rights, pair_gives-hidden, pair_gives-pair_of_rights}
 use Rattle.flat_model.proofs.Elements.{each-append, each-flat_map, each-from_get, each-get, each-map, each_weaker, list_any_at_get, list_any_found}
 use Rattle.flat_model.proofs.HeldBytes.{is_hidden}
 use Rattle.flat_model.proofs.PageGroups.{gives_pages}
-use Rattle.flat_model.proofs.PagePairs.{IsGrouped, OfPages, each-page_pairs, in_all_pages, list_any-flat_map_at, list_any-page_pairs, own_page}
+use Rattle.flat_model.proofs.PagePairs.{OfPages, each-page_pairs, in_all_pages, list_any-flat_map_at, list_any-page_pairs, own_page}
 use Rattle.flat_model.proofs.Pieces.{ArePiecesApart, IsIn, IsIn-held_by, Piece, held_by, held_by-at, none_held}
 use Rattle.flat_model.proofs.Placed.{IsPlaced, IsSecretOf, IsTiledGrant, bounds_of, in_heap_range, in_range-from}
 use Rattle.flat_model.proofs.Recovery.{IsHonest, IsSuited}

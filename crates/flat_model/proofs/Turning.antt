@@ -11,6 +11,7 @@ use Rattle.addr_base.specs.declared.rights.Kind.{Kind}
 use Rattle.flat_model.specs.Greatest.{greatest, IsGreatest, Says}
 use Rattle.flat_model.specs.Decision.{decision, is_granted, matches, matches_at, pair_gives, verdict_of}
 use Rattle.flat_model.specs.Plan.{first_serving, no_pair, slots_from}
+use Rattle.flat_model.specs.Circle.{IsTurnedBy, OnCircle}
 use Rattle.flat_model.proofs.Elements.{slice_get-set_same, slice_get-set_other}
 use Rattle.flat_model.proofs.Greatness.{Says-greatest}
 
@@ -21,15 +22,6 @@ rotated_pair plan pairs a kind = if is_granted (decision pairs a kind) then None
 -- the regions once that pair stands in the circle's slot
 abbrev pub touched_pairs : List Pair → List Pair → ℕ → ℕ → Kind → List Pair
 touched_pairs plan pairs slot a kind = option_map_or (slice_set pairs slot) (rotated_pair plan pairs a kind) pairs
-
--- the slot is on the circle of a unit of so many regions
-abbrev pub OnCircle : ℕ → ℕ → Type 0
-OnCircle regions j = (2 ≤ j) × (j + 2 ≤ regions)
-
--- each region is that of a switch, or is on the circle and meets the fact
-pub record IsTurnedBy (From : Pair → Type 0) (slots pairs : List Pair) : Type 0 where
-  pub same_length : length pairs ≡ length slots
-  pub each : (j : ℕ) → (slice_get pairs j ≡ slice_get slots j) ⊎ (OnCircle (length slots) j × (p : Pair) × (slice_get pairs j ≡ Some p) × From p)
 
 -- the regions of a switch
 pub IsTurnedBy-switch : (From : Pair → Type 0) (slots : List Pair) → IsTurnedBy From slots slots

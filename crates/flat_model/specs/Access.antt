@@ -1,5 +1,5 @@
 -- What a box may access: its items, and the pages that it owns.
-use Rattle.std.specs.Prelude.{ℕ, ◌+◌, ◌%◌, Bool, true, false, ◌&&◌, ◌||◌, nat_eq, nat_le, Option, Some, None, List, [], ◌∷◌, slice_get}
+use Rattle.std.specs.Prelude.{ℕ, ◌+◌, ◌%◌, Bool, true, false, ◌&&◌, ◌||◌, nat_eq, nat_le, Option, Some, None, List, [], ◌∷◌, slice_get, unwrap_or}
 use Rattle.std.specs.List.{list_any}
 use Rattle.std.specs.Option.{option_map_or}
 use Rattle.addr_base.specs.declared.identity.BoxId.{BoxId}
@@ -28,6 +28,14 @@ abbrev pub owned_by : ℕ → Option BoxId → Bool
 owned_by b None = false
 owned_by b (Some owner) = nat_eq owner.0 b
 
+-- who owns the frame with this number
+abbrev pub owner_of : List (Option BoxId) → ℕ → Option BoxId
+owner_of owners frame = unwrap_or (slice_get owners frame) None
+
+-- whether the box with this number owns the frame
+abbrev pub owns : List (Option BoxId) → ℕ → ℕ → Bool
+owns owners b frame = owned_by b (owner_of owners frame)
+
 -- whether the n bytes from a lie in one own page; the first of the pages begins at the base
 abbrev pub in_pages : {A : Type 0} → (A → Bool) → ℕ → ℕ → ℕ → ℕ → List A → Bool
 in_pages is_own base page a n [] = false
@@ -45,9 +53,13 @@ is_data Read = true
 is_data Write = true
 is_data Fetch = false
 
--- whether the box with this number may access the n bytes from a in this way
-abbrev pub may_access : Config → List (Option BoxId) → ℕ → ℕ → ℕ → Kind → Bool
-may_access cfg owners b a n kind =
+-- whether a box that has these items, and of these pages its own, may access the n bytes from a in this way
+abbrev pub may_access : {A : Type 0} → (A → Bool) → List Item → Option HeapPart → List A → ℕ → ℕ → Kind → Bool
+may_access is_own items heap pages a n kind =
     is_aligned a n
-    && (list_any (item_holds a n kind) (items_at cfg b)
-    || (is_data kind && in_heap (owned_by b) cfg.board.heap a n owners))
+    && (list_any (item_holds a n kind) items
+    || (is_data kind && in_heap is_own heap a n pages))
+
+-- whether the box with this number holds the n bytes from a for this kind of access
+abbrev pub holds : Config → List (Option BoxId) → ℕ → ℕ → ℕ → Kind → Bool
+holds cfg owners b a n kind = may_access (owned_by b) (items_at cfg b) cfg.board.heap owners a n kind

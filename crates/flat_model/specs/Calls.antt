@@ -1,6 +1,9 @@
 -- The list of all calls, in the order in which they were made.
 use Rattle.std.specs.Prelude.{ℕ, Bool, true, false, ◌&&◌, not, nat_eq, Option, Some, None, List, map, find, count_by, if◌then◌else◌}
+use Rattle.std.specs.Option.{option_map_or}
 use Rattle.addr_base.specs.declared.identity.Ticket.{Ticket}
+use Rattle.flat_model.specs.declared.events.Collected.{Collected}
+use Rattle.flat_model.specs.declared.events.Collected.TheVariants as got
 use Rattle.flat_model.specs.declared.states.Call.{Call}
 use Rattle.flat_model.specs.declared.states.CallState.{CallState}
 use Rattle.flat_model.specs.declared.states.CallState.TheVariants as state
@@ -12,22 +15,23 @@ same_ticket first second = nat_eq first.thread.0 second.thread.0 && nat_eq first
 -- whether the call waits for its start
 abbrev pub is_posted : CallState → Bool
 is_posted state.Posted = true
-is_posted _ = false
-
--- whether the call was started and is not done
-abbrev pub is_started : CallState → Bool
-is_started state.Started = true
-is_started _ = false
+is_posted state.Started = false
+is_posted (state.Done value) = false
+is_posted state.Collected = false
 
 -- whether the call's result was collected
 abbrev pub is_collected : CallState → Bool
+is_collected state.Posted = false
+is_collected state.Started = false
+is_collected (state.Done value) = false
 is_collected state.Collected = true
-is_collected _ = false
 
--- the result of a call that is done
-abbrev pub done_value : CallState → Option ℕ
-done_value (state.Done value) = Some value
-done_value _ = None
+-- what a caller gets of a call in this state
+abbrev pub collected_in : CallState → Collected
+collected_in state.Posted = got.Waiting
+collected_in state.Started = got.Waiting
+collected_in (state.Done value) = got.Done value
+collected_in state.Collected = got.NoSuch
 
 -- whether the call is posted to the box with this number
 abbrev pub is_posted_to : ℕ → Call → Bool
@@ -53,23 +57,33 @@ is_open_call ticket call = same_ticket ticket call.ticket && not (is_collected c
 abbrev pub open_call : Ticket → List Call → Option Call
 open_call ticket calls = find (is_open_call ticket) calls
 
--- the calls, with another state for those that pass a test
-abbrev pub with_state : (Call → Bool) → CallState → List Call → List Call
-with_state passes new calls = map (λ call. if passes call then record call { state = new } else call) calls
+-- what the caller gets by this ticket
+abbrev pub collected_by : Ticket → List Call → Collected
+collected_by ticket calls = option_map_or (λ call. collected_in call.state) (open_call ticket calls) got.NoSuch
 
--- the calls after the start of the ticket's posted call
-abbrev pub with_started : Ticket → List Call → List Call
-with_started ticket calls = with_state (λ call. same_ticket ticket call.ticket && is_posted call.state) state.Started calls
+-- the call in another state, where it is the ticket's and not collected
+abbrev pub in_state : Ticket → CallState → Call → Call
+in_state ticket new call = if is_open_call ticket call then record call { state = new } else call
 
--- the calls after the ticket's started call got its result
-abbrev pub with_done : Ticket → ℕ → List Call → List Call
-with_done ticket value calls =
-    with_state (λ call. same_ticket ticket call.ticket && is_started call.state) (state.Done value) calls
+-- the calls with the ticket's call, where it is not collected, in another state
+abbrev pub with_state : Ticket → CallState → List Call → List Call
+with_state ticket new calls = map (in_state ticket new) calls
 
--- the call as collected, where it is the ticket's
-abbrev pub collected_call : Ticket → Call → Call
-collected_call ticket call = if same_ticket ticket call.ticket then record call { state = state.Collected } else call
+-- the call, where it is the ticket's
+abbrev pub call_with : Ticket → Option Call → Option Call
+call_with ticket None = None
+call_with ticket (Some call) = if same_ticket ticket call.ticket then Some call else None
+
+-- the ticket's call, where it is the oldest of its thread that is posted to the box with this number
+abbrev pub next_call : Ticket → ℕ → List Call → Option Call
+next_call ticket b calls = call_with ticket (oldest_posted_by ticket.thread.0 b calls)
 
 -- the calls after the ticket's result was collected
 abbrev pub with_collected : Ticket → List Call → List Call
-with_collected ticket calls = map (collected_call ticket) calls
+with_collected ticket calls = with_state ticket state.Collected calls
+
+-- the calls after their caller asked for this ticket's result and got this
+abbrev pub after_asking : Ticket → Collected → List Call → List Call
+after_asking ticket got.Waiting calls = calls
+after_asking ticket (got.Done value) calls = with_collected ticket calls
+after_asking ticket got.NoSuch calls = calls

@@ -45,7 +45,7 @@ pub record IsFlatRun (cfg : Config) (log : Log) : Type 0 where
 -- with the unit's lines the log is a run of the protection unit
 pub record IsUnitRun (cfg : Config) (log : Log) : Type 0 where
   pub lines : map (λ event. event.lines) (events_of log.items)
-      ≡ lines_of_run cfg (opening_state cfg) opening_unit (choices_of log.items)
+      ≡ lines_of_run cfg (opening_state cfg) (opening_unit cfg) (choices_of log.items)
   pub closed : ends_with_entry log.items ≡ true
 
 -- the unit grants an access exactly where the flat machine does not answer a fault

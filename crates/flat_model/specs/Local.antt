@@ -1,10 +1,10 @@
 -- The instructions that read and change one thread alone.
-use Rattle.std.specs.Prelude.{ℕ, Bool, ◌==◌, not, Option, Some, None, if◌then◌else◌, bit_and, bit_or, bit_xor}
+use Rattle.std.specs.Prelude.{ℕ, Bool, ◌==◌, not, if◌then◌else◌, bit_and, bit_or, bit_xor}
+use Rattle.flat_model.specs.declared.classes.LocalInstr.{LocalInstr}
+use Rattle.flat_model.specs.declared.classes.LocalInstr.TheVariants as local
 use Rattle.flat_model.specs.declared.events.Mode.TheVariants as mode
 use Rattle.flat_model.specs.declared.events.Reply.{Reply}
 use Rattle.flat_model.specs.declared.events.Reply.TheVariants as reply
-use Rattle.flat_model.specs.declared.instructions.Instr.{Instr}
-use Rattle.flat_model.specs.declared.instructions.Instr.TheVariants as instr
 use Rattle.flat_model.specs.declared.states.ThreadState.{ThreadState}
 use Rattle.flat_model.specs.Thread.{difference32, moved, register, sum32, with_register, with_result}
 
@@ -28,18 +28,17 @@ box_id_row th r home = (with_result th r home, reply.Value home)
 abbrev pub halt_row : ThreadState → ThreadState × Reply
 halt_row th = (record th { mode = mode.Halted }, reply.Halted)
 
--- what the instruction does to a thread of the box with this number, where it is one of these
-abbrev pub local_row : ThreadState → ℕ → Instr → Option (ThreadState × Reply)
-local_row th home (instr.Set d w) = Some (assigned_row th d w)
-local_row th home (instr.Mov d s) = Some (assigned_row th d (register th s))
-local_row th home (instr.Add d a b) = Some (assigned_row th d (sum32 (register th a) (register th b)))
-local_row th home (instr.Sub d a b) = Some (assigned_row th d (difference32 (register th a) (register th b)))
-local_row th home (instr.And d a b) = Some (assigned_row th d (bit_and (register th a) (register th b)))
-local_row th home (instr.Orr d a b) = Some (assigned_row th d (bit_or (register th a) (register th b)))
-local_row th home (instr.Eor d a b) = Some (assigned_row th d (bit_xor (register th a) (register th b)))
-local_row th home (instr.Jump n) = Some (jump_row th n)
-local_row th home (instr.Jz a n) = Some (branch_row th (register th a == 0) n)
-local_row th home (instr.Jnz a n) = Some (branch_row th (not (register th a == 0)) n)
-local_row th home (instr.BoxId d) = Some (box_id_row th d home)
-local_row th home instr.Halt = Some (halt_row th)
-local_row th home _ = None
+-- what the instruction does to a thread of the box with this number
+abbrev pub local_row : ThreadState → ℕ → LocalInstr → ThreadState × Reply
+local_row th home (local.Set d w) = assigned_row th d w
+local_row th home (local.Mov d s) = assigned_row th d (register th s)
+local_row th home (local.Add d a b) = assigned_row th d (sum32 (register th a) (register th b))
+local_row th home (local.Sub d a b) = assigned_row th d (difference32 (register th a) (register th b))
+local_row th home (local.And d a b) = assigned_row th d (bit_and (register th a) (register th b))
+local_row th home (local.Orr d a b) = assigned_row th d (bit_or (register th a) (register th b))
+local_row th home (local.Eor d a b) = assigned_row th d (bit_xor (register th a) (register th b))
+local_row th home (local.Jump n) = jump_row th n
+local_row th home (local.Jz a n) = branch_row th (register th a == 0) n
+local_row th home (local.Jnz a n) = branch_row th (not (register th a == 0)) n
+local_row th home (local.BoxId d) = box_id_row th d home
+local_row th home local.Halt = halt_row th

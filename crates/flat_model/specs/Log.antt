@@ -18,7 +18,7 @@ use Rattle.flat_model.specs.declared.logs.Log.{Log}
 use Rattle.flat_model.specs.declared.parts.Config.{Config}
 use Rattle.flat_model.specs.Plan.{REGIONS}
 use Rattle.flat_model.specs.Run.{LINES}
-use Rattle.flat_model.specs.Step.{home_of}
+use Rattle.flat_model.specs.CallRows.{home_of}
 use Rattle.flat_model.specs.Want.{is_thread}
 
 -- the entry of an item that is no unit's line

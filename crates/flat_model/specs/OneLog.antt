@@ -28,7 +28,7 @@ woven_items (lines ∷ more) (entry ∷ entries) = map item.Unit lines ++ item.C
 -- the log of these choices
 unfoldable pub log_of_choices : Config → List Choice → Log
 log_of_choices cfg cs = record {
-  items = woven_items (lines_of_run cfg (opening_state cfg) opening_unit cs) (entries_of_run cfg (opening_state cfg) cs);
+  items = woven_items (lines_of_run cfg (opening_state cfg) (opening_unit cfg) cs) (entries_of_run cfg (opening_state cfg) cs);
   ends = ends_of (state_after_all cfg (opening_state cfg) cs);
 }
 

@@ -1,5 +1,5 @@
 -- Which regions a box has at a switch, and which may rotate in.
-use Rattle.std.specs.Prelude.{ℕ, ◌+◌, ◌-◌, ◌*◌, ◌/◌, ◌^◌, Bool, false, ◌&&◌, List, [], ◌∷◌, ◌++◌, length, replicate, slice_get, slice_set, Option, Some, None, if◌then◌else◌, nat_eq}
+use Rattle.std.specs.Prelude.{ℕ, ◌+◌, ◌-◌, ◌*◌, ◌/◌, ◌^◌, Bool, ◌&&◌, List, [], ◌∷◌, ◌++◌, length, replicate, slice_set, Option, Some, None, if◌then◌else◌, nat_eq}
 use Rattle.std.proofs.Common.{zero, suc}
 use Rattle.std.specs.List.{flat_map, range_with_len}
 use Rattle.std.specs.Option.{option_map_or}
@@ -12,12 +12,17 @@ use Rattle.flat_model.specs.declared.boards.HeapPart.{HeapPart}
 use Rattle.flat_model.specs.declared.parts.BoxPart.{BoxPart}
 use Rattle.flat_model.specs.declared.parts.Config.{Config}
 use Rattle.flat_model.specs.declared.parts.Item.{Item}
+use Rattle.flat_model.specs.Access.{owns}
 use Rattle.flat_model.specs.Cover.{NO_ACCESS, attributes, cover_of, group_pair, pair_of}
 use Rattle.flat_model.specs.Decision.{matches, pair_gives}
 
--- how many regions the unit has
+-- how many regions a unit has
 abbrev pub REGIONS : ℕ
 REGIONS = 8
+
+-- how many regions the unit of a configuration has
+abbrev pub regions : Config → ℕ
+regions config = REGIONS
 
 -- a disabled region
 abbrev pub no_pair : Pair
@@ -43,16 +48,11 @@ overlay_pair board part =
 -- the regions at a switch to a box
 abbrev pub switch_slots : Config → BoxPart → List Pair
 switch_slots config part =
-    slots_from REGIONS (flash_pair config.board) (own_pair part) (overlay_pair config.board part)
+    slots_from (regions config) (flash_pair config.board) (own_pair part) (overlay_pair config.board part)
 
 -- the covers of a box's grants, in order
 abbrev pub grant_pairs : List Item → List Pair
 grant_pairs grants = flat_map (λ g. cover_of g.range g.rights) grants
-
--- whether the frame is the box's
-abbrev pub owns : List (Option BoxId) → ℕ → ℕ → Bool
-owns owners b frame =
-    option_map_or (λ owner. option_map_or (λ id. nat_eq id.0 b) owner false) (slice_get owners frame) false
 
 -- the number whose bit i says whether frame first + i is the box's, for i below n
 abbrev pub owned_mask : List (Option BoxId) → ℕ → ℕ → ℕ → ℕ

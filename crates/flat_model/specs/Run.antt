@@ -9,7 +9,7 @@ use Rattle.flat_model.specs.declared.states.Flat.{Flat}
 use Rattle.flat_model.specs.declared.states.ThreadState.{ThreadState}
 use Rattle.flat_model.specs.Memory.{opening_memory}
 use Rattle.flat_model.specs.Step.{reply_to, state_after}
-use Rattle.flat_model.specs.Thread.{opening_thread}
+use Rattle.flat_model.specs.ThreadEvents.{opening_thread}
 
 -- how many interrupt lines there are
 abbrev pub LINES : ℕ

@@ -10,10 +10,11 @@ use Rattle.flat_model.specs.declared.parts.ScriptWord.{ScriptWord}
 use Rattle.flat_model.specs.declared.parts.ScriptWord.TheVariants as word
 use Rattle.flat_model.specs.declared.states.Call.{Call}
 use Rattle.flat_model.specs.declared.states.Flat.{Flat}
+use Rattle.flat_model.specs.CallRows.{home_of}
 use Rattle.flat_model.specs.Calls.{oldest_posted, posted_count}
 use Rattle.flat_model.specs.Run.{opening_state}
-use Rattle.flat_model.specs.Step.{home_of, state_after}
-use Rattle.flat_model.specs.Want.{INBOX_SLOTS, want_of}
+use Rattle.flat_model.specs.Step.{state_after}
+use Rattle.flat_model.specs.Want.{inbox_slots, want_of}
 
 -- the start of this call by a server, or an idle look where there is none
 abbrev pub start_or_idle : ThreadId → Option Call → Choice
@@ -23,7 +24,7 @@ start_or_idle t (Some call) = choice.Start t call.ticket
 -- the event of a thread that wants this
 abbrev pub choice_by_want : Config → Flat → ThreadId → Want → Choice
 choice_by_want cfg f t want.Plain = choice.Turn t true
-choice_by_want cfg f t (want.Room b) = choice.Turn t (nat_lt (posted_count b.0 f.shared.calls) INBOX_SLOTS)
+choice_by_want cfg f t (want.Room b) = choice.Turn t (nat_lt (posted_count b.0 f.shared.calls) (inbox_slots cfg))
 choice_by_want cfg f t want.Next = start_or_idle t (oldest_posted (home_of cfg t.0).0 f.shared.calls)
 
 -- the event that a thread's word stands for

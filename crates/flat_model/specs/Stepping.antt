@@ -1,22 +1,32 @@
 -- Inner: no public contract cites this. Steps are counted without passing 2 ^ 32.
-use Rattle.std.specs.Prelude.{◌≡◌, ℕ, ◌+◌, ◌^◌, ◌<◌, false, Some, slice_get}
+use Rattle.std.specs.Prelude.{◌≡◌, ℕ, ◌+◌, ◌^◌, ◌<◌, ◌≤◌, false, Some, slice_get}
 use Rattle.flat_model.specs.declared.parts.Config.{Config}
 use Rattle.flat_model.specs.declared.parts.ThreadPart.{ThreadPart}
 use Rattle.flat_model.specs.declared.states.Flat.{Flat}
 use Rattle.flat_model.specs.declared.states.ThreadState.{ThreadState}
 use Rattle.flat_model.specs.Thread.{has_ended}
 
--- the thread has ended, or one more of its steps can be counted
+-- one more step of the thread can be counted, and one more of its calls
+pub record CanCount (th : ThreadState) : Type 0 where
+  pub steps : th.steps + 1 < 2 ^ 32
+  pub calls : th.count ≤ th.steps
+
+-- the thread has ended, or one more step and one more call of it can be counted
 abbrev pub CanStep : ThreadState → Type 0
-CanStep th = has_ended th ≡ false → th.steps + 1 < 2 ^ 32
+CanStep th = has_ended th ≡ false → CanCount th
 
 -- the same of every thread of a state
 abbrev pub AllCanStep : Flat → Type 0
 AllCanStep f = (t : ℕ) (th : ThreadState) → slice_get f.threads t ≡ Some th → CanStep th
 
--- the thread has ended, or has taken fewer steps than its budget
+-- the thread has taken fewer steps than its budget, and made no more calls than steps
+pub record HasSteps (budget : ℕ) (th : ThreadState) : Type 0 where
+  pub steps : th.steps < budget
+  pub calls : th.count ≤ th.steps
+
+-- the thread has ended, or has steps left
 abbrev pub IsWithin : ThreadPart → ThreadState → Type 0
-IsWithin thread th = has_ended th ≡ false → th.steps < thread.steps
+IsWithin thread th = has_ended th ≡ false → HasSteps thread.steps th
 
 -- the same of every thread of a state
 abbrev pub KeepsBudgets : Config → Flat → Type 0

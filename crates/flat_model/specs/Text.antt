@@ -25,7 +25,7 @@ use Rattle.flat_model.specs.declared.events.UnitLine.TheVariants as line
 use Rattle.flat_model.specs.declared.logs.End.{End}
 use Rattle.flat_model.specs.declared.logs.Log.{Log}
 use Rattle.flat_model.specs.declared.parts.Config.{Config}
-use Rattle.flat_model.specs.Step.{home_of}
+use Rattle.flat_model.specs.CallRows.{home_of}
 
 -- a hexadecimal digit, in upper case
 abbrev pub hex_digit : ℕ → ℕ

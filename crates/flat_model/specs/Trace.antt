@@ -18,7 +18,7 @@ pub record World : Type 0 where
 
 -- both at the start
 abbrev pub opening_world : Config → World
-opening_world cfg = record { flat = opening_state cfg; unit = opening_unit }
+opening_world cfg = record { flat = opening_state cfg; unit = opening_unit cfg }
 
 -- the items of a choice: the unit's lines, and then the entry
 unfoldable pub event_items : Config → World → Choice → List Logged

@@ -1,7 +1,6 @@
 -- The run of the protection unit: its state, and the lines that it writes for an event.
-use Rattle.std.specs.Prelude.{ℕ, Bool, true, false, nat_eq, Option, Some, None, List, [], ◌∷◌, ◌++◌, length, replicate, if◌then◌else◌, slice_get, slice_set}
+use Rattle.std.specs.Prelude.{ℕ, Bool, true, false, nat_eq, Option, Some, None, List, [], ◌∷◌, ◌++◌, length, replicate, if◌then◌else◌, slice_set}
 use Rattle.addr_base.specs.declared.identity.BoxId.{BoxId}
-use Rattle.addr_base.specs.declared.identity.ThreadId.{ThreadId}
 use Rattle.addr_base.specs.declared.pairs.Pair.{Pair}
 use Rattle.flat_model.specs.declared.accesses.Access.{Access}
 use Rattle.flat_model.specs.declared.events.Choice.{Choice}
@@ -10,13 +9,11 @@ use Rattle.flat_model.specs.declared.events.UnitLine.{UnitLine}
 use Rattle.flat_model.specs.declared.events.UnitLine.TheVariants as line
 use Rattle.flat_model.specs.declared.parts.BoxPart.{BoxPart}
 use Rattle.flat_model.specs.declared.parts.Config.{Config}
-use Rattle.flat_model.specs.declared.parts.ThreadPart.{ThreadPart}
 use Rattle.flat_model.specs.declared.states.Flat.{Flat}
-use Rattle.flat_model.specs.declared.states.ThreadState.{ThreadState}
+use Rattle.flat_model.specs.Actors.{Actor, actor_of}
 use Rattle.flat_model.specs.Decision.{decision, is_granted}
-use Rattle.flat_model.specs.Plan.{REGIONS, first_serving, flushed_pairs, next_slot, no_pair, plan_of, switch_slots}
+use Rattle.flat_model.specs.Plan.{first_serving, flushed_pairs, next_slot, no_pair, plan_of, regions, switch_slots}
 use Rattle.flat_model.specs.Step.{empties_slots, state_after, touch_of}
-use Rattle.flat_model.specs.Thread.{has_ended}
 
 -- the box that was last switched to, the pairs, and the circle's slot
 pub record UnitState : Type 0 where
@@ -25,8 +22,8 @@ pub record UnitState : Type 0 where
   pub circle : ℕ
 
 -- the unit at the start: no box yet, all pairs disabled
-abbrev pub opening_unit : UnitState
-opening_unit = record { last = None; pairs = replicate REGIONS no_pair; circle = 2 }
+abbrev pub opening_unit : Config → UnitState
+opening_unit cfg = record { last = None; pairs = replicate (regions cfg) no_pair; circle = 2 }
 
 -- whether the box was last switched to
 abbrev pub is_last : Option BoxId → ℕ → Bool
@@ -94,49 +91,34 @@ abbrev pub lines_of_event : Config → BoxId → BoxPart → List Pair → UnitS
 lines_of_event cfg b part plan u access empties =
     switch_lines u b ++ access_lines plan (entered cfg part u b) access ++ flush_lines empties
 
--- the number of the thread that acts, or none at a ring
-abbrev pub actor_of : Choice → Option ThreadId
-actor_of (choice.Turn t room) = Some t
-actor_of (choice.Start t ticket) = Some t
-actor_of (choice.Idle t) = Some t
-actor_of (choice.Ring line by) = None
+-- who acts at a choice: none at a ring, and where the thread has ended
+abbrev pub actor_at : Config → Flat → Choice → Option Actor
+actor_at cfg f (choice.Turn t room) = actor_of cfg f t.0
+actor_at cfg f (choice.Start t ticket) = actor_of cfg f t.0
+actor_at cfg f (choice.Idle t) = actor_of cfg f t.0
+actor_at cfg f (choice.Ring line by) = None
 
--- the box that acts: none at a ring and where the thread has ended
-abbrev pub acting_box : Option ThreadPart → Option ThreadState → Option BoxId
-acting_box (Some thread) (Some th) = if has_ended th then None else Some thread.home
-acting_box _ _ = None
+-- the unit after an event of this actor, or of none
+abbrev pub unit_after_actor : Config → Flat → UnitState → Choice → Option Actor → UnitState
+unit_after_actor cfg f u c None = u
+unit_after_actor cfg f u c (Some a) =
+    unit_after_event cfg a.program.home a.part (plan_of cfg f.shared.owners a.program.home.0 a.part) u
+    (touch_of cfg f c) (empties_slots cfg f c)
 
--- the box whose event a choice is for the unit, or none
-abbrev pub box_of_event : Config → Flat → Option ThreadId → Option BoxId
-box_of_event cfg f None = None
-box_of_event cfg f (Some t) = acting_box (slice_get cfg.threads t.0) (slice_get f.threads t.0)
-
--- the unit after an event of this box, or of none
-abbrev pub unit_after_box : Config → Flat → UnitState → Choice → Option BoxId → Option BoxPart → UnitState
-unit_after_box cfg f u c (Some b) (Some part) =
-    unit_after_event cfg b part (plan_of cfg f.shared.owners b.0 part) u (touch_of cfg f c) (empties_slots cfg f c)
-unit_after_box cfg f u c _ _ = u
-
--- the lines of an event of this box, or of none
-abbrev pub lines_of_box : Config → Flat → UnitState → Choice → Option BoxId → Option BoxPart → List UnitLine
-lines_of_box cfg f u c (Some b) (Some part) =
-    lines_of_event cfg b part (plan_of cfg f.shared.owners b.0 part) u (touch_of cfg f c) (empties_slots cfg f c)
-lines_of_box cfg f u c _ _ = []
-
--- the part of the box with this number, if there is one
-abbrev pub part_at : Config → Option BoxId → Option BoxPart
-part_at cfg None = None
-part_at cfg (Some b) = slice_get cfg.boxes b.0
+-- the lines of an event of this actor, or of none
+abbrev pub lines_of_actor : Config → Flat → UnitState → Choice → Option Actor → List UnitLine
+lines_of_actor cfg f u c None = []
+lines_of_actor cfg f u c (Some a) =
+    lines_of_event cfg a.program.home a.part (plan_of cfg f.shared.owners a.program.home.0 a.part) u
+    (touch_of cfg f c) (empties_slots cfg f c)
 
 -- the unit after a choice made in a flat state
 unfoldable pub unit_after : Config → Flat → UnitState → Choice → UnitState
-unit_after cfg f u c =
-    unit_after_box cfg f u c (box_of_event cfg f (actor_of c)) (part_at cfg (box_of_event cfg f (actor_of c)))
+unit_after cfg f u c = unit_after_actor cfg f u c (actor_at cfg f c)
 
 -- the unit's lines for a choice made in a flat state
 unfoldable pub unit_lines : Config → Flat → UnitState → Choice → List UnitLine
-unit_lines cfg f u c =
-    lines_of_box cfg f u c (box_of_event cfg f (actor_of c)) (part_at cfg (box_of_event cfg f (actor_of c)))
+unit_lines cfg f u c = lines_of_actor cfg f u c (actor_at cfg f c)
 
 -- the unit's lines for each of the choices made one after another
 abbrev pub lines_of_run : Config → Flat → UnitState → List Choice → List (List UnitLine)

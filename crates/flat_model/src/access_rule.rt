@@ -4,7 +4,7 @@ ghost use Rattle.addr_base.specs.Range as range_words;
 ghost use Rattle.flat_model.specs.Access as spec;
 
 use crate::boards::HeapPart;
-use crate::parts::{Config, Item};
+use crate::parts::{BoxPart, Item};
 use addr_base::{BoxId, Kind, Range};
 
 /// Whether an address is a multiple of the size of the access.
@@ -40,17 +40,6 @@ fn items_hold(items: &[Item], a: u64, n: u8, kind: Kind) -> bool
     items.iter().any(|item| item_holds(item, a, n, kind))
 }
 
-// Whether one of the box's items contains the bytes and gives the kind.
-fn box_holds(cfg: &Config, home: u8, a: u64, n: u8, kind: Kind) -> bool
-    requires { a < 2 ^ 33 }
-    ensures { result ≡ list_any (spec.item_holds a n kind) (spec.items_at cfg.now home) }
-{
-    match cfg.boxes.as_slice().get(home as usize) {
-        Some(part) => items_hold(part.items.as_slice(), a, n, kind),
-        None => false,
-    }
-}
-
 /// Whether a page of this owner belongs to the box.
 pub(crate) fn owned_by(home: u8, owner: Option<BoxId>) -> bool
     ensures { result ≡ spec.owned_by home owner }
@@ -65,7 +54,8 @@ pub(crate) fn owned_by(home: u8, owner: Option<BoxId>) -> bool
 #[tactic(auto, using(crate::proofs::PageLemmas::in_pages_past))]
 fn pages_hold(heap: &HeapPart, owners: &[Option<BoxId>], home: u8, a: u64, n: u8) -> bool
     requires { a < 2 ^ 33 }
-    ensures { result ≡ spec.in_pages (spec.owned_by home) heap.now.base heap.now.page a n owners.now }
+    ensures { result ≡ spec.in_pages
+        (spec.owned_by home) heap.now.base heap.now.page a n owners.now }
 {
     let page = heap.page as u64;
     let mut base = heap.base as u64;
@@ -102,20 +92,22 @@ fn heap_holds(heap: &Option<HeapPart>, owners: &[Option<BoxId>], home: u8, a: u6
     }
 }
 
-/// Whether the box may access the `n` bytes from an address in this way.
+/// Whether the box, with these owners of its pages, may access the `n` bytes from an address in this way.
 pub fn may_access(
-    cfg: &Config,
+    part: &BoxPart,
+    home: BoxId,
+    heap: &Option<HeapPart>,
     owners: &[Option<BoxId>],
-    home: u8,
     a: u64,
     n: u8,
     kind: Kind,
 ) -> bool
     requires size { 0 < n }
     requires address { a < 2 ^ 33 }
-    ensures { result ≡ spec.may_access cfg.now owners.now home a n kind }
+    ensures { result ≡ spec.may_access
+        (spec.owned_by home.0) part.now.items heap.now owners.now a n kind }
 {
     is_aligned(a, n)
-        && (box_holds(cfg, home, a, n, kind)
-            || (is_data(kind) && heap_holds(&cfg.board.heap, owners, home, a, n)))
+        && (items_hold(part.items.as_slice(), a, n, kind)
+            || (is_data(kind) && heap_holds(heap, owners, home.0, a, n)))
 }

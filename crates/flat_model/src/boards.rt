@@ -1,5 +1,8 @@
+ghost use Rattle.std.specs.Prelude.{◌≡◌, IfOk};
+
 use crate::lists::Items;
-use addr_base::Range;
+use addr_base::{OutOfMemory, Range};
+use std::alloc::Global;
 
 /// A word of memory that is there from the start.
 #[derive(Clone, Copy, PartialEq, Eq, Debug)]
@@ -26,4 +29,21 @@ pub struct Board {
     pub secret: Option<Range>,
     pub words: Items<Word>,
     pub heap: Option<HeapPart>,
+}
+
+impl Board {
+    /// The same board again.
+    pub fn copied(&self, alloc: Global) -> Result<Board, OutOfMemory>
+        ensures { IfOk result (λ copy. copy ≡ self.now) }
+    {
+        let words = Vec::from_slice(alloc, self.words.as_slice())?;
+        Ok(Board {
+            flash: self.flash,
+            sram: self.sram,
+            peripherals: self.peripherals,
+            secret: self.secret,
+            words: Items::from_vec(words),
+            heap: self.heap,
+        })
+    }
 }

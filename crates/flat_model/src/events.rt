@@ -1,3 +1,6 @@
+ghost use Rattle.std.specs.Prelude.{◌≡◌};
+ghost use Rattle.flat_model.specs.Step as step_words;
+
 use addr_base::{BoxId, Kind, Line, Pair, ThreadId, Ticket, Verdict};
 
 /// What is chosen to happen next: a turn of a thread, with or without room for a call; the start of
@@ -119,4 +122,25 @@ pub enum Collected {
     Waiting,
     Done(u32),
     NoSuch,
+}
+
+impl Reply {
+    /// Whether it is a status.
+    pub fn is_status(self) -> bool
+        ensures { result ≡ step_words.is_status self }
+    {
+        match self {
+            Reply::Status(_) => true,
+            Reply::Ended
+            | Reply::Done
+            | Reply::Value(_)
+            | Reply::Posted(_)
+            | Reply::Waiting
+            | Reply::Irq(_)
+            | Reply::Given(_)
+            | Reply::Fault { why: _, at: _ }
+            | Reply::Halted
+            | Reply::Begun(_) => false,
+        }
+    }
 }

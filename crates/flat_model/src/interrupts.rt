@@ -1,12 +1,9 @@
-ghost use Rattle.std.specs.Prelude.{◌≡◌, ◌-◌, ◌<◌};
+ghost use Rattle.std.specs.Prelude.{◌≡◌, ◌<◌};
 ghost use Rattle.flat_model.specs.Interrupts as spec;
-ghost use Rattle.flat_model.specs.Turn as turn_words;
 
-use crate::events::Reply;
-use crate::local::set_register;
-use crate::parts::{BoxPart, IrqPart};
-use crate::states::{Context, Lines, Shared, ThreadState};
-use addr_base::{BoxId, ThreadId};
+use crate::parts::IrqPart;
+use crate::states::{Context, Lines};
+use addr_base::{BoxId, Line};
 
 // Whether the flag at this number is set.
 fn is_set(flags: &[bool], n: u8) -> bool
@@ -16,8 +13,8 @@ fn is_set(flags: &[bool], n: u8) -> bool
 }
 
 // Whether the line is latched and enabled.
-fn is_pending(lines: &Lines, line: u8) -> bool
-    ensures { result ≡ spec.is_pending lines.now line }
+fn is_deliverable(lines: &Lines, line: u8) -> bool
+    ensures { result ≡ spec.is_deliverable lines.now line }
 {
     is_set(lines.latched.as_slice(), line) && is_set(lines.enabled.as_slice(), line)
 }
@@ -28,19 +25,19 @@ fn lower_of(irq: IrqPart, other: Option<IrqPart>) -> IrqPart
 {
     match other {
         Some(other) if other.line.0 < irq.line.0 => other,
-        _ => irq,
+        Some(_) | None => irq,
     }
 }
 
-// The pending one of these with the lowest line.
-fn lowest_pending(lines: &Lines, irqs: &[IrqPart]) -> Option<IrqPart>
-    ensures { result ≡ spec.lowest_pending lines.now irqs.now }
+// The deliverable one of these with the lowest line.
+fn lowest_deliverable(lines: &Lines, irqs: &[IrqPart]) -> Option<IrqPart>
+    ensures { result ≡ spec.lowest_deliverable lines.now irqs.now }
 {
     let [irq, rest @ ..] = irqs else {
         return None;
     };
-    let lowest = lowest_pending(lines, rest);
-    if is_pending(lines, irq.line.0) {
+    let lowest = lowest_deliverable(lines, rest);
+    if is_deliverable(lines, irq.line.0) {
         Some(lower_of(*irq, lowest))
     } else {
         lowest
@@ -59,39 +56,30 @@ fn saved_context(lines: &Lines, home: BoxId) -> Option<Context>
         .unwrap_or(None)
 }
 
-/// The interrupt that is due to a ready thread of the box.
-pub fn due_interrupt(
-    lines: &Lines,
-    part: &BoxPart,
-    home: BoxId,
-    thread: ThreadId,
-) -> Option<IrqPart>
-    ensures { result ≡ spec.due_interrupt lines.now part.now home.0 thread.0 }
+/// The lowest line that can be delivered to the box: none while it is in its handler.
+pub fn deliverable_to(lines: &Lines, irqs: &[IrqPart], home: BoxId) -> Option<IrqPart>
+    ensures { result ≡ spec.deliverable_to lines.now irqs.now home.0 }
 {
-    if thread.0 as u32 == part.first && saved_context(lines, home).is_none() {
-        lowest_pending(lines, part.irqs.as_slice())
+    if saved_context(lines, home).is_none() {
+        lowest_deliverable(lines, irqs)
     } else {
         None
     }
 }
 
-/// Delivers an interrupt: its latch is cleared, place and registers are saved, the handler is next.
-pub(crate) fn delivery_row(
-    home: BoxId,
-    shared: &mut Shared,
-    thread: &mut ThreadState,
-    irq: IrqPart,
-) -> Reply
-    ensures { turn_words.delivery_row home.0 shared.old thread.old irq
-        ≡ record { shared = shared.new; thread = thread.new; reply = result } }
-{
-    let context = Context {
-        pc: thread.pc,
-        regs: thread.regs,
-    };
-    shared.lines.latched.put(irq.line.0 as usize, false);
-    shared.lines.saved.put(home.0 as usize, Some(context));
-    set_register(thread, 0, irq.line.0 as u32);
-    thread.pc = irq.handler;
-    Reply::Irq(irq.line)
+impl Lines {
+    /// Latches a line.
+    pub fn latch(&mut self, line: Line)
+        ensures { self.new ≡ spec.with_latched self.old line.0 }
+    {
+        self.latched.put(line.0 as usize, true);
+    }
+
+    /// Delivers a line to a box: its latch is cleared, and the context is saved.
+    pub fn deliver(&mut self, home: BoxId, line: Line, context: Context)
+        ensures { self.new ≡ spec.with_delivered self.old line.0 home.0 context }
+    {
+        self.latched.put(line.0 as usize, false);
+        self.saved.put(home.0 as usize, Some(context));
+    }
 }

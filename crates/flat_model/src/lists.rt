@@ -1,4 +1,4 @@
-ghost use Rattle.std.specs.Prelude.{◌≡◌, ◌<◌, IfOk, length, replicate, slice_set, string_bytes};
+ghost use Rattle.std.specs.Prelude.{◌≡◌, ◌<◌, IfOk, Some, length, replicate, slice_get, slice_set, string_bytes};
 
 use addr_base::OutOfMemory;
 use std::alloc::Global;
@@ -70,6 +70,14 @@ impl<T: Copy> Items<T> {
             items.push(value)?;
         }
         Ok(Items { items })
+    }
+
+    /// The element at `index`.
+    pub fn at(&self, index: usize) -> T
+        requires { index < length self.now }
+        ensures { slice_get self.now index ≡ Some result }
+    {
+        self.items[index]
     }
 
     /// Puts a value in the place of the element at `index`.

@@ -2,14 +2,12 @@ ghost use Rattle.std.specs.Prelude.{◌≡◌, ◌<◌, None, false, IfOk, repli
 ghost use Rattle.std.specs.Option.{option_map_or};
 ghost use Rattle.flat_model.specs.Memory as memory_words;
 ghost use Rattle.flat_model.specs.Run as spec;
-ghost use Rattle.flat_model.specs.Thread as thread_words;
 
 use crate::banks::put_word;
 use crate::boards::{Board, HeapPart};
-use crate::events::Mode;
 use crate::lists::Items;
 use crate::parts::Config;
-use crate::states::{Flat, Lines, Memory, Shared, ThreadState};
+use crate::states::{Lines, Memory, Shared, ThreadState};
 use addr_base::OutOfMemory;
 use std::alloc::Global;
 
@@ -74,25 +72,11 @@ pub fn page_count(heap: &Option<HeapPart>) -> u32
     }
 }
 
-/// A thread as it is at the start.
-pub fn opening_thread() -> ThreadState
-    ensures { result ≡ thread_words.opening_thread }
-{
-    ThreadState {
-        pc: 0,
-        regs: [0; 8],
-        mode: Mode::Ready,
-        steps: 0,
-        count: 0,
-        awaited: None,
-    }
-}
-
 /// The interrupt lines of so many boxes as they are at the start.
 pub fn opening_lines(alloc: Global, boxes: usize) -> Result<Lines, OutOfMemory>
     ensures { IfOk result (λ lines. lines ≡ record {
-      latched = replicate 64 false;
-      enabled = replicate 64 false;
+      latched = replicate spec.LINES false;
+      enabled = replicate spec.LINES false;
       saved = replicate boxes None;
     }) }
 {
@@ -106,23 +90,29 @@ pub fn opening_lines(alloc: Global, boxes: usize) -> Result<Lines, OutOfMemory>
     })
 }
 
-/// The flat machine as it is at the start.
+/// What the threads share as it is at the start.
 #[tactic(auto, unfolding(crate::specs::Run::opening_state))]
-pub(crate) fn opening_state(alloc: Global, cfg: &Config) -> Result<Flat, OutOfMemory>
-    ensures { IfOk result (λ flat. flat ≡ spec.opening_state cfg.now) }
+pub(crate) fn opening_shared(alloc: Global, cfg: &Config) -> Result<Shared, OutOfMemory>
+    ensures { IfOk result (λ shared. shared ≡ (spec.opening_state cfg.now).shared) }
 {
     let memory = opening_memory(alloc, &cfg.board)?;
     let owners = Items::filled(alloc, None, page_count(&cfg.board.heap) as usize)?;
     let calls = Items::from_vec(Vec::new(alloc));
     let serving = Items::filled(alloc, None, cfg.boxes.len())?;
     let lines = opening_lines(alloc, cfg.boxes.len())?;
-    let threads = Items::filled(alloc, opening_thread(), cfg.threads.len())?;
-    let shared = Shared {
+    Ok(Shared {
         memory,
         owners,
         calls,
         serving,
         lines,
-    };
-    Ok(Flat { shared, threads })
+    })
+}
+
+/// The threads as they are at the start.
+#[tactic(auto, unfolding(crate::specs::Run::opening_state))]
+pub fn opening_threads(alloc: Global, cfg: &Config) -> Result<Items<ThreadState>, OutOfMemory>
+    ensures { IfOk result (λ threads. threads ≡ (spec.opening_state cfg.now).threads) }
+{
+    Items::filled(alloc, ThreadState::opening(), cfg.threads.len())
 }

@@ -1,3 +1,6 @@
+ghost use Rattle.std.specs.Prelude.{◌≡◌, slice_get};
+ghost use Rattle.std.specs.Option.{option_copied};
+
 use crate::boards::Board;
 use crate::instructions::Instr;
 use crate::lists::{Items, Text};
@@ -92,4 +95,29 @@ pub struct Config {
     pub gateways: Items<RpcGate>,
     pub devices: Items<DevicePart>,
     pub script: Items<ScriptWord>,
+}
+
+impl ThreadPart {
+    /// The instruction at a place of the program, if there is one.
+    pub fn instruction(&self, place: u32) -> Option<Instr>
+        ensures { result ≡ slice_get self.now.program place }
+    {
+        self.program.as_slice().get(place as usize).copied()
+    }
+}
+
+impl Config {
+    /// The thread with this number, with its program.
+    pub fn program(&self, t: ThreadId) -> Option<&ThreadPart>
+        ensures { option_copied result ≡ slice_get self.now.threads t.0 }
+    {
+        self.threads.as_slice().get(t.0 as usize)
+    }
+
+    /// The box with this number.
+    pub fn part(&self, b: BoxId) -> Option<&BoxPart>
+        ensures { option_copied result ≡ slice_get self.now.boxes b.0 }
+    {
+        self.boxes.as_slice().get(b.0 as usize)
+    }
 }

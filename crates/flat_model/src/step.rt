@@ -1,77 +1,83 @@
-ghost use Rattle.std.specs.Prelude.{◌≡◌, ◌<◌, Some, true, slice_get};
+ghost use Rattle.std.specs.Prelude.{◌≡◌, true, slice_get};
 ghost use Rattle.std.specs.List.{list_any};
-ghost use Rattle.std.specs.Option.{ForSome, option_copied};
+ghost use Rattle.std.specs.Option.{ForSome};
+ghost use Rattle.flat_model.specs.Actors.{actor_of};
+ghost use Rattle.flat_model.specs.Evaluator.{flat_of};
 ghost use Rattle.flat_model.specs.Interrupts as interrupts;
+ghost use Rattle.flat_model.specs.Next as next_words;
 ghost use Rattle.flat_model.specs.Step as spec;
 ghost use Rattle.flat_model.specs.Stepping.{CanStep};
-ghost use Rattle.flat_model.specs.Today.{RunsToday, runs_today};
+ghost use Rattle.flat_model.specs.Today.{RunsToday, runs_next, thread_runs_today};
 ghost use Rattle.flat_model.specs.Want as want_words;
 
-use crate::actors::Who;
+use crate::access_rule::may_access;
+use crate::actors::Actor;
 use crate::events::Reply;
-use crate::parts::{BoxPart, Config, IrqPart, ThreadPart};
-use crate::states::{Flat, ThreadState};
-use crate::turn::turn_row;
+use crate::kernel::Kernel;
+use crate::lists::Items;
+use crate::next::Next;
+use crate::parts::{BoxPart, Config, IrqPart};
+use crate::plain::PlainKernel;
+use crate::states::ThreadState;
 use addr_base::{Line, ThreadId};
 
-// A turn of a thread of a box, where there is such a box.
-fn turn_in(
+// What a turn of the actor comes to.
+fn next_of(actor: Actor<'_>, kernel: &PlainKernel, thread: &ThreadState) -> Next
+    requires { thread_runs_today actor.program.now ≡ true }
+    ensures exact { result ≡ next_words.next_of actor.entry.program.now thread.now
+        (interrupts.due_interrupt kernel.now.shared.lines actor.entry.part.now
+        actor.entry.who.home.0 actor.entry.who.thread.0) }
+    ensures sized { next_words.IsSized result }
+    ensures today { runs_next result ≡ true }
+{
+    Next::of(actor.program, thread, actor.due_interrupt(kernel))
+}
+
+// Whether the box holds the bytes of the access that a turn decides, if it decides one.
+fn holds_next(cfg: &Config, actor: Actor<'_>, kernel: &PlainKernel, next: Next) -> bool
+    requires { next_words.IsSized next }
+    ensures { result ≡ next_words.holds_next cfg.now.board actor.entry.who.home.0
+        actor.entry.part.now kernel.now.shared.owners next }
+{
+    match next.touch() {
+        Some(access) => may_access(
+            actor.part,
+            actor.who.home,
+            &cfg.board.heap,
+            kernel.shared.owners.as_slice(),
+            access.at as u64,
+            access.size,
+            access.kind,
+        ),
+        None => false,
+    }
+}
+
+/// A turn of a thread, where there is one: an access is done where the box holds its bytes.
+pub(crate) fn turn_at(
     cfg: &Config,
-    flat: &mut Flat,
+    kernel: &mut PlainKernel,
+    threads: &mut Items<ThreadState>,
     t: ThreadId,
     room: bool,
-    program: &ThreadPart,
-    thread: ThreadState,
 ) -> Reply
-    requires today { runs_today (slice_get program.now.program thread.pc) ≡ true }
-    requires steps { CanStep thread }
-    ensures { spec.turn_in cfg.now flat.old t room program.now thread
-        (slice_get cfg.now.boxes program.now.home.0)
-        ≡ (flat.new, result) }
-{
-    let Some(part) = cfg.boxes.as_slice().get(program.home.0 as usize) else {
-        return Reply::Ended;
-    };
-    let who = Who {
-        home: program.home,
-        thread: t,
-        room,
-    };
-    let mut thread = thread;
-    let reply = turn_row(cfg, who, part, program, &mut flat.shared, &mut thread);
-    flat.threads.put(t.0 as usize, thread);
-    reply
-}
-
-/// The thread with this number in the configuration.
-pub fn program_of(cfg: &Config, t: ThreadId) -> Option<&ThreadPart>
-    ensures { option_copied result ≡ slice_get cfg.now.threads t.0 }
-{
-    cfg.threads.as_slice().get(t.0 as usize)
-}
-
-// The thread with this number.
-fn thread_of(flat: &Flat, t: ThreadId) -> Option<ThreadState>
-    ensures { result ≡ slice_get flat.now.threads t.0 }
-{
-    flat.threads.as_slice().get(t.0 as usize).copied()
-}
-
-/// A turn of a thread, where there is one.
-pub(crate) fn turn_at(cfg: &Config, flat: &mut Flat, t: ThreadId, room: bool) -> Reply
+    requires config { kernel.old.config ≡ cfg.now }
     requires today { RunsToday cfg.now }
-    requires steps { ForSome (slice_get flat.old.threads t.0) CanStep }
-    ensures { spec.turn_at cfg.now flat.old t room
-        (slice_get cfg.now.threads t.0) (slice_get flat.old.threads t.0)
-        ≡ (flat.new, result) }
+    requires steps { ForSome (slice_get threads.old t.0) CanStep }
+    ensures exact { spec.turn_by cfg.now (flat_of kernel.old threads.old) t room
+        (actor_of cfg.now (flat_of kernel.old threads.old) t.0)
+        ≡ (flat_of kernel.new threads.new, result) }
+    ensures config { kernel.new.config ≡ kernel.old.config }
 {
-    let Some(program) = program_of(cfg, t) else {
+    let Some(actor) = Actor::of(cfg, threads, t, room) else {
         return Reply::Ended;
     };
-    let Some(thread) = thread_of(flat, t) else {
-        return Reply::Ended;
-    };
-    turn_in(cfg, flat, t, room, program, thread)
+    let mut thread = threads.at(t.0 as usize);
+    let next = next_of(actor, kernel, &thread);
+    let granted = holds_next(cfg, actor, kernel, next);
+    let reply = actor.turn(kernel, &mut thread, next, granted);
+    threads.put(t.0 as usize, thread);
+    reply
 }
 
 // Whether the line is one of these.
@@ -95,11 +101,4 @@ pub(crate) fn is_owned_line(cfg: &Config, line: Line) -> bool
     ensures { result ≡ want_words.is_owned_line cfg.now line.0 }
 {
     some_has_line(line, cfg.boxes.as_slice())
-}
-
-/// Latches a line.
-pub(crate) fn ring(flat: &mut Flat, line: Line)
-    ensures { flat.new ≡ spec.rung flat.old line.0 }
-{
-    flat.shared.lines.latched.put(line.0 as usize, true);
 }

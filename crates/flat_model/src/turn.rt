@@ -1,148 +1,243 @@
-ghost use Rattle.std.specs.Prelude.{◌≡◌, ◌+◌, ◌-◌, ◌^◌, ◌<◌, true, false, slice_get};
+ghost use Rattle.std.specs.Prelude.{◌≡◌, ◌+◌, ◌^◌, ◌<◌, ◌≤◌, true};
+ghost use Rattle.flat_model.specs.AccessRows as access_words;
+ghost use Rattle.flat_model.specs.CallRows as call_words;
 ghost use Rattle.flat_model.specs.Interrupts.{due_interrupt};
-ghost use Rattle.flat_model.specs.Thread as thread_words;
-ghost use Rattle.flat_model.specs.Today as today;
+ghost use Rattle.flat_model.specs.Kernel.{outcome_of};
+ghost use Rattle.flat_model.specs.LineRows as line_words;
+ghost use Rattle.flat_model.specs.Next.{IsSized};
+ghost use Rattle.flat_model.specs.Today.{runs_next};
 ghost use Rattle.flat_model.specs.Turn as spec;
 
-use crate::access_rows::{access_of, access_row, fault_row};
-use crate::actors::Who;
-use crate::events::{Flaw, Mode, Reply};
-use crate::instructions::Instr;
-use crate::interrupts::{delivery_row, due_interrupt};
+use crate::accesses::Access;
+use crate::actors::{Actor, Who};
+use crate::classes::KernelCall;
+use crate::events::{Collected, Flaw, Reply};
+use crate::kernel::Kernel;
 use crate::local::local_row;
-use crate::parts::{BoxPart, Config, ThreadPart};
-use crate::states::{Shared, ThreadState};
-use crate::waiting::waiting_row;
+use crate::next::Next;
+use crate::parts::IrqPart;
+use crate::states::{Awaited, ThreadState};
+use addr_base::{BoxId, Kind, Ticket};
 
-// What the instruction at the thread's place does, or the fault of a place without one.
-fn instruction_row(
-    cfg: &Config,
-    who: Who,
-    part: &BoxPart,
-    shared: &mut Shared,
-    thread: &mut ThreadState,
-    instr: Option<Instr>,
-) -> Reply
-    requires { today.runs_today instr ≡ true }
-    ensures { spec.instruction_row cfg.now who part.now shared.old thread.old instr
-        ≡ record { shared = shared.new; thread = thread.new; reply = result } }
+// The bytes at the address go into the register.
+fn load_row<K: Kernel>(kernel: &K, thread: &mut ThreadState, access: Access) -> Reply
+    requires { access.size ≤ 4 }
+    ensures { access_words.load_row (K.state kernel.now).config.board
+        (K.state kernel.now).shared thread.old access
+        ≡ outcome_of (K.state kernel.now) thread.new result }
 {
-    let _ = part;
-    let Some(instr) = instr else {
-        let place = thread.pc;
-        return fault_row(shared, thread, Flaw::Place, place);
-    };
-    if let Some(reply) = local_row(thread, who.home, instr) {
-        return reply;
-    }
-    let Some(access) = access_of(thread, instr) else {
-        unreachable!();
-    };
-    access_row(cfg, who.home, shared, thread, access)
+    let value = kernel.load(access.at, access.size);
+    thread.set_register(access.register, value);
+    thread.move_on();
+    Reply::Value(value)
 }
 
-/// Whether the thread waits for a call.
-pub fn is_waiting(mode: Mode) -> bool
-    ensures { result ≡ thread_words.is_waiting mode }
+// The low bytes of the register go to the address.
+fn store_row<K: Kernel>(kernel: &mut K, thread: &mut ThreadState, access: Access) -> Reply
+    requires { access.size ≤ 4 }
+    ensures exact { access_words.store_row (K.state kernel.old).config.board
+        (K.state kernel.old).shared thread.old access
+        ≡ outcome_of (K.state kernel.new) thread.new result }
+    ensures config { (K.state kernel.new).config ≡ (K.state kernel.old).config }
 {
-    match mode {
-        Mode::Waiting => true,
-        _ => false,
-    }
+    let value = thread.register(access.register);
+    kernel.store(access.at, access.size, value);
+    thread.move_on();
+    Reply::Done
 }
 
-/// Whether the thread may run no more.
-pub fn has_ended(thread: &ThreadState) -> bool
-    ensures { result ≡ thread_words.has_ended thread.now }
+// Carries out an access that was granted.
+fn performed_row<K: Kernel>(kernel: &mut K, thread: &mut ThreadState, access: Access) -> Reply
+    requires { access.size ≤ 4 }
+    ensures exact { access_words.performed_row (K.state kernel.old).config.board
+        (K.state kernel.old).shared thread.old access access.kind
+        ≡ outcome_of (K.state kernel.new) thread.new result }
+    ensures config { (K.state kernel.new).config ≡ (K.state kernel.old).config }
 {
-    match thread.mode {
-        Mode::Ready | Mode::Waiting => false,
-        Mode::Halted | Mode::Faulted | Mode::Spent => true,
-    }
-}
-
-/// The instruction at a place of the thread's program, if there is one.
-pub fn instruction_at(program: &ThreadPart, place: u32) -> Option<Instr>
-    ensures { result ≡ slice_get program.now.program place }
-{
-    program.program.as_slice().get(place as usize).copied()
-}
-
-// A turn of a thread that is ready: the interrupt that is due, or the instruction at its place.
-fn ready_row(
-    cfg: &Config,
-    who: Who,
-    part: &BoxPart,
-    program: &ThreadPart,
-    shared: &mut Shared,
-    thread: &mut ThreadState,
-) -> Reply
-    requires { today.runs_today (slice_get program.now.program thread.old.pc) ≡ true }
-    ensures { spec.ready_row cfg.now who part.now program.now shared.old thread.old
-        (due_interrupt shared.old.lines part.now who.home.0 who.thread.0)
-        ≡ record { shared = shared.new; thread = thread.new; reply = result } }
-{
-    match due_interrupt(&shared.lines, part, who.home, who.thread) {
-        Some(irq) => delivery_row(who.home, shared, thread, irq),
-        None => {
-            let instr = instruction_at(program, thread.pc);
-            instruction_row(cfg, who, part, shared, thread, instr)
+    match access.kind {
+        Kind::Read => load_row(kernel, thread, access),
+        Kind::Write => store_row(kernel, thread, access),
+        Kind::Fetch => {
+            thread.move_on();
+            Reply::Done
         }
     }
 }
 
-// What a turn of a thread does that has not ended, once its step is counted.
-fn acting_row(
-    cfg: &Config,
-    who: Who,
-    part: &BoxPart,
-    program: &ThreadPart,
-    shared: &mut Shared,
-    thread: &mut ThreadState,
-) -> Reply
-    requires { today.runs_today (slice_get program.now.program thread.old.pc) ≡ true }
-    ensures { spec.acting_row cfg.now who part.now program.now shared.old thread.old
-        ≡ record { shared = shared.new; thread = thread.new; reply = result } }
+// How a denial of this kind is called.
+fn violation_of(kind: Kind) -> Flaw
+    ensures { result ≡ access_words.violation_of kind }
 {
-    if is_waiting(thread.mode) {
-        waiting_row(who, shared, thread)
+    match kind {
+        Kind::Read | Kind::Write => Flaw::Daccviol,
+        Kind::Fetch => Flaw::Iaccviol,
+    }
+}
+
+// An aligned access, which was granted or denied.
+fn access_row<K: Kernel>(
+    kernel: &mut K,
+    thread: &mut ThreadState,
+    access: Access,
+    granted: bool,
+) -> Reply
+    requires { access.size ≤ 4 }
+    ensures exact { access_words.access_row (K.state kernel.old).config.board
+        (K.state kernel.old).shared thread.old access granted
+        ≡ outcome_of (K.state kernel.new) thread.new result }
+    ensures config { (K.state kernel.new).config ≡ (K.state kernel.old).config }
+{
+    if granted {
+        performed_row(kernel, thread, access)
     } else {
-        ready_row(cfg, who, part, program, shared, thread)
+        thread.fault(violation_of(access.kind), access.at)
     }
 }
 
-/// Spends the thread where its steps are at its budget and it did not stop by itself.
-pub fn bound(thread: &mut ThreadState, budget: u32)
-    ensures { thread.new ≡ thread_words.bounded budget thread.old }
-{
-    let stopped = match thread.mode {
-        Mode::Halted | Mode::Faulted => true,
-        _ => false,
-    };
-    if !stopped && thread.steps >= budget {
-        thread.mode = Mode::Spent;
-    }
-}
-
-/// A turn of a thread.
-pub(crate) fn turn_row(
-    cfg: &Config,
-    who: Who,
-    part: &BoxPart,
-    program: &ThreadPart,
-    shared: &mut Shared,
+// The delivery of an interrupt: its latch is cleared, place and registers are saved, the handler is next.
+fn delivery_row<K: Kernel>(
+    kernel: &mut K,
+    home: BoxId,
     thread: &mut ThreadState,
+    irq: IrqPart,
 ) -> Reply
-    requires today { today.runs_today (slice_get program.now.program thread.old.pc) ≡ true }
-    requires steps { thread_words.has_ended thread.old ≡ false → thread.old.steps + 1 < 2 ^ 32 }
-    ensures { spec.turn_row cfg.now who part.now program.now shared.old thread.old
-        ≡ record { shared = shared.new; thread = thread.new; reply = result } }
+    ensures exact { line_words.delivery_row home.0 (K.state kernel.old).shared thread.old irq
+        ≡ outcome_of (K.state kernel.new) thread.new result }
+    ensures config { (K.state kernel.new).config ≡ (K.state kernel.old).config }
 {
-    if has_ended(thread) {
-        return Reply::Ended;
+    kernel.deliver(home, irq.line, thread.context());
+    thread.interrupt(irq.line.0, irq.handler);
+    Reply::Irq(irq.line)
+}
+
+// One look less for a call's result: the last one times out.
+fn no_result_row(thread: &mut ThreadState, awaited: Awaited) -> Reply
+    ensures { call_words.no_result_row thread.old awaited ≡ (thread.new, result) }
+{
+    let looks = awaited.looks.saturating_sub(1);
+    if looks == 0 {
+        thread.time_out(awaited.seq);
+        Reply::Status(1)
+    } else {
+        thread.look_on(awaited.seq, looks);
+        Reply::Waiting
     }
-    thread.steps += 1;
-    let reply = acting_row(cfg, who, part, program, shared, thread);
-    bound(thread, program.steps);
-    reply
+}
+
+// A look for a call's result, which is there or not yet.
+fn look_row<K: Kernel>(
+    kernel: &mut K,
+    who: Who,
+    thread: &mut ThreadState,
+    awaited: Awaited,
+) -> Reply
+    ensures exact { spec.waiting_row who (K.state kernel.old).shared thread.old (Some awaited)
+        ≡ outcome_of (K.state kernel.new) thread.new result }
+    ensures config { (K.state kernel.new).config ≡ (K.state kernel.old).config }
+{
+    let ticket = Ticket {
+        thread: who.thread,
+        seq: awaited.seq,
+    };
+    match kernel.collect(ticket) {
+        Collected::Done(value) => {
+            thread.wake(value);
+            Reply::Value(value)
+        }
+        Collected::Waiting | Collected::NoSuch => no_result_row(thread, awaited),
+    }
+}
+
+// A turn of a thread that waits.
+fn waiting_row<K: Kernel>(kernel: &mut K, who: Who, thread: &mut ThreadState) -> Reply
+    ensures exact { spec.waiting_row who (K.state kernel.old).shared thread.old thread.old.awaited
+        ≡ outcome_of (K.state kernel.new) thread.new result }
+    ensures config { (K.state kernel.new).config ≡ (K.state kernel.old).config }
+{
+    match thread.awaited {
+        Some(awaited) => look_row(kernel, who, thread, awaited),
+        None => Reply::Waiting,
+    }
+}
+
+impl Actor<'_> {
+    /// The interrupt that is due to the actor's thread, where it is ready.
+    pub fn due_interrupt<K: Kernel>(&self, kernel: &K) -> Option<IrqPart>
+        ensures { result ≡ due_interrupt
+            (K.state kernel.now).shared.lines self.now.part.now self.now.who.home.0
+            self.now.who.thread.0 }
+    {
+        if self.who.thread.0 as u32 == self.part.first {
+            kernel.deliverable(self.part, self.who.home)
+        } else {
+            None
+        }
+    }
+
+    // What the turn does whose step is counted.
+    fn row<K: Kernel>(
+        self,
+        kernel: &mut K,
+        thread: &mut ThreadState,
+        next: Next,
+        granted: bool,
+    ) -> Reply
+        requires sized { IsSized next }
+        requires today { runs_next next ≡ true }
+        ensures exact { spec.row_of (K.state kernel.old).config self.entry.who self.entry.part.now
+            (K.state kernel.old).shared thread.old granted next
+            ≡ outcome_of (K.state kernel.new) thread.new result }
+        ensures config { (K.state kernel.new).config ≡ (K.state kernel.old).config }
+    {
+        match next {
+            Next::Look => waiting_row(kernel, self.who, thread),
+            Next::Deliver(irq) => delivery_row(kernel, self.who.home, thread, irq),
+            Next::Local(instr) => local_row(thread, self.who.home, instr),
+            Next::Access(access) => access_row(kernel, thread, access, granted),
+            Next::Unaligned(at) => thread.fault(Flaw::Unaligned, at),
+            // Each is listed, so that none is forgotten when its part of the machine comes.
+            Next::Kernel(call) => match call {
+                KernelCall::PagesAlloc(_, _) => unreachable!(),
+                KernelCall::PageFree(_) => unreachable!(),
+                KernelCall::IrqOn(_) => unreachable!(),
+                KernelCall::IrqOff(_) => unreachable!(),
+                KernelCall::IrqReturn => unreachable!(),
+                KernelCall::GwRead(_, _) => unreachable!(),
+                KernelCall::GwWrite(_, _) => unreachable!(),
+                KernelCall::RpcCall(_, _) => unreachable!(),
+                KernelCall::RpcSync(_, _) => unreachable!(),
+                KernelCall::RpcTake => unreachable!(),
+                KernelCall::RpcReturn(_) => unreachable!(),
+                KernelCall::RpcResult(_, _) => unreachable!(),
+            },
+            Next::Nowhere => {
+                let place = thread.pc;
+                thread.fault(Flaw::Place, place)
+            }
+        }
+    }
+
+    /// A turn of the actor's thread that comes to this: its step is counted, and after its last one it is spent. The
+    /// access that it decides, if it decides one, was granted or denied.
+    pub fn turn<K: Kernel>(
+        self,
+        kernel: &mut K,
+        thread: &mut ThreadState,
+        next: Next,
+        granted: bool,
+    ) -> Reply
+        requires sized { IsSized next }
+        requires today { runs_next next ≡ true }
+        requires steps { thread.old.steps + 1 < 2 ^ 32 }
+        ensures exact { spec.turn_row (K.state kernel.old).config self.entry.who
+            self.entry.part.now self.entry.program.now.steps
+            (K.state kernel.old).shared thread.old granted next
+            ≡ outcome_of (K.state kernel.new) thread.new result }
+        ensures config { (K.state kernel.new).config ≡ (K.state kernel.old).config }
+    {
+        thread.count_step();
+        let reply = self.row(kernel, thread, next, granted);
+        thread.bound(self.program.steps);
+        reply
+    }
 }

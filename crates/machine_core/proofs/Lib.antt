@@ -1,6 +1,5 @@
-pub mod EventLemmas
 pub mod FixtureSound
-pub mod KeptEvents
+pub mod KeptLemmas
 pub mod MachineLemmas
-pub mod NextLemmas
 pub mod TurnLemmas
+pub mod UnitLemmas

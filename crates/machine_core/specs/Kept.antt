@@ -1,10 +1,7 @@
--- Inner: no public contract cites this. What a machine keeps of its parts.
-use Rattle.std.specs.Prelude.{◌≡◌, ℕ, ◌+◌, ◌*◌, ◌≤◌, true, List, [], Option, IfSome, length}
-use Rattle.addr_base.specs.declared.identity.BoxId.{BoxId}
-use Rattle.flat_model.specs.declared.boards.HeapPart.{HeapPart}
+-- Inner: no public contract cites this. What a machine keeps of its state and of its journal.
+use Rattle.std.specs.Prelude.{◌≡◌, ℕ, ◌+◌, ◌*◌, ◌≤◌, true, List, [], length}
+use Rattle.flat_model.specs.declared.events.Choice.{Choice}
 use Rattle.flat_model.specs.declared.events.Drive.{Drive}
-use Rattle.flat_model.specs.declared.events.Drive.TheVariants.{Script, Threads}
-use Rattle.flat_model.specs.declared.events.Logged.{Logged}
 use Rattle.flat_model.specs.declared.logs.End.{End}
 use Rattle.flat_model.specs.declared.parts.Config.{Config}
 use Rattle.flat_model.specs.Legal.{all_fit}
@@ -14,27 +11,30 @@ use Rattle.flat_model.specs.Sound.{IsSound}
 use Rattle.flat_model.specs.Stepping.{KeepsBudgets}
 use Rattle.flat_model.specs.StepsLeft.{steps_left}
 use Rattle.flat_model.specs.Today.{RunsToday}
-use Rattle.flat_model.specs.Trace.{World, opening_world, trace_of, world_reached}
+use Rattle.flat_model.specs.Trace.{World, opening_world, trace_of, world_after_all, world_reached}
+use Rattle.machine_core.specs.Journal.{JournalState}
+use Rattle.machine_core.specs.View.{events_beside}
 
--- there is a place for the owner of each page
-abbrev pub HasOwners : Option HeapPart → List (Option BoxId) → Type 0
-HasOwners heap owners = IfSome heap (λ h. length owners ≡ h.count)
+-- the world is one that these choices reach
+pub record IsReached (cfg : Config) (w : World) : Type 0 where
+  pub choices : List Choice
+  pub reached : w ≡ world_after_all cfg (opening_world cfg) choices
 
--- how many events may still come that are not steps of threads
-abbrev pub events_beside : Config → Drive → ℕ → ℕ
-events_beside cfg Script extra = extra
-events_beside cfg Threads extra = extra * length cfg.devices
-
--- the items are those of the world that they reached, and there is room for all that may come
-pub record IsKept (cfg : Config) (drive : Drive) (extra : ℕ) (items : List Logged) (w : World) (capacity : ℕ) : Type 0 where
+-- the state is one that choices reach, and each thread that may still run has steps left
+pub record IsKeptState (cfg : Config) (w : World) : Type 0 where
   pub sound : IsSound cfg
   pub today : RunsToday cfg
-  pub traced : items ≡ trace_of cfg (opening_world cfg) (choices_of items)
-  pub world : w ≡ world_reached cfg items
-  pub fitting : all_fit cfg (opening_state cfg) (choices_of items) ≡ true
+  pub reached : IsReached cfg w
   pub budgets : KeepsBudgets cfg w.flat
   pub numbered : length w.flat.threads ≡ length cfg.threads
-  pub room : length items + (4 * steps_left cfg.threads w.flat.threads + events_beside cfg drive extra) ≤ capacity
+
+-- the items are those of the world that they reached, and there is room for all that may come
+pub record IsKept (cfg : Config) (drive : Drive) (extra : ℕ) (journal : JournalState) (w : World) : Type 0 where
+  pub state : IsKeptState cfg w
+  pub traced : journal.items ≡ trace_of cfg (opening_world cfg) (choices_of journal.items)
+  pub world : w ≡ world_reached cfg journal.items
+  pub fitting : all_fit cfg (opening_state cfg) (choices_of journal.items) ≡ true
+  pub room : 4 * steps_left cfg.threads w.flat.threads + events_beside cfg drive extra ≤ journal.room
 
 -- there is room for the end of each thread, and none is written yet
 pub record HasEnds (cfg : Config) (ends : List End) (capacity : ℕ) : Type 0 where

@@ -1,5 +1,6 @@
 pub mod Fixture
+pub mod Journal
 pub mod Kept
-pub mod Next
-pub mod Parts
+pub mod State
+pub mod Unit
 pub mod View

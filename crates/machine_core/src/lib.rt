@@ -1,15 +1,12 @@
 //! The machine: a configuration, the state of its boxes, and the legal log of what happened.
 #![tactic(auto)]
 
-mod access;
-mod interrupts;
+mod journal;
+mod kernel;
 mod machine;
-mod next;
-mod parts;
-mod record;
+mod state;
 #[cfg(test)]
 mod tests;
-mod turn;
-mod waiting;
+mod unit;
 
 pub use machine::Machine;

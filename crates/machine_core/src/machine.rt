@@ -1,54 +1,49 @@
-ghost use Rattle.std.specs.Prelude.{◌≡◌, ◌+◌, ◌-◌, ◌*◌, ◌<◌, ◌≤◌, true, [], IfOk, length, map, slice_get, sum_by, vec_capacity, if◌then◌else◌};
-ghost use Rattle.std.specs.Option.{option_map_or};
+ghost use Rattle.std.specs.Prelude.{◌≡◌, ◌+◌, ◌-◌, ◌*◌, ◌<◌, ◌≤◌, true, [], IfOk, length, map, sum_by, vec_capacity, if◌then◌else◌};
 ghost use Rattle.flat_model.specs.Legal.{IsLegal};
 ghost use Rattle.flat_model.specs.Log.{choices_of};
 ghost use Rattle.flat_model.specs.OneLog.{log_of_choices};
 ghost use Rattle.flat_model.specs.Run.{end_of_thread};
 ghost use Rattle.flat_model.specs.Sound.{IsSound};
-ghost use Rattle.flat_model.specs.Thread as thread_words;
 ghost use Rattle.flat_model.specs.Today.{RunsToday};
-ghost use Rattle.machine_core.specs.Kept.{events_beside};
-ghost use Rattle.machine_core.specs.View.{booted, ended_in, stepped, world_of};
+ghost use Rattle.machine_core.specs.State.{ended_in};
+ghost use Rattle.machine_core.specs.View.{booted, events_beside, stepped, world_of};
 
-use crate::parts::{Parts, opening_parts, opening_threads};
-use crate::record::record_turn;
-use flat_model::{
-    Config, Drive, End, Items, Log, Logged, OutOfMemory, ThreadId, ThreadPart, ThreadState,
-    has_ended,
-};
-use region_rotation::Rotator;
+use crate::journal::Journal;
+use crate::state::State;
+use flat_model::{Config, Drive, End, Items, Log, OutOfMemory, ThreadId, ThreadPart, ThreadState};
 use std::alloc::Global;
 use std::marker::Model;
 
-/// A configuration, the state of its boxes and of the unit, and the log of what happened. Contracts
-/// see the configuration, the drive, how many extra events may come, and the log's items.
+/// A configuration, the state of its boxes and of the unit, and the log of what happened. Contracts see the
+/// configuration, the drive, how many extra events may come, the log's items, and for how many more there is room.
 #[derive(Drop)]
 pub struct Machine {
     config: Config,
     drive: Drive,
     extra: u32,
-    parts: Parts,
-    threads: Vec<ThreadState>,
-    rotator: Rotator,
-    items: Vec<Logged>,
+    state: State,
+    journal: Journal,
     ends: Vec<End>,
 }
 
 impl Model for Machine {
     ghost use Rattle.std.specs.Prelude.{◌≡◌, vec_capacity};
     ghost use Rattle.machine_core.specs.Kept.{HasEnds, IsKept};
-    ghost use Rattle.machine_core.specs.Parts.{flat_of};
     ghost use Rattle.machine_core.specs.View.{MachineView};
-    ghost use Rattle.region_rotation.specs.Rotation.{rotation_of};
 
     ghost Value = { MachineView };
 
-    ghost view = { λ m. record { config = m.config; drive = m.drive; extra = m.extra; items = m.items.items } };
+    ghost view = { λ m. record {
+      config = m.config;
+      drive = m.drive;
+      extra = m.extra;
+      items = m.journal.items;
+      room = m.journal.room;
+    } };
 
-    ghost invariant = { λ m. IsKept m.config m.drive m.extra m.items.items (record { flat = flat_of m.parts m.threads.items; unit = m.rotator.unit }) (vec_capacity m.items)
-        × (m.rotator ≡ rotation_of m.config m.rotator.unit)
-        × HasEnds m.config m.ends.items (vec_capacity m.ends)
-        × (m.parts.banks.board ≡ m.config.board) };
+    ghost invariant = { λ m. (m.state.config ≡ m.config)
+        × IsKept m.config m.drive m.extra m.journal m.state.world
+        × HasEnds m.config m.ends.items (vec_capacity m.ends) };
 }
 
 // How many steps the threads may take in all.
@@ -71,16 +66,6 @@ fn beside(cfg: &Config, drive: Drive, extra: u32) -> usize
     match drive {
         Drive::Script => extra as usize,
         Drive::Threads => extra as usize * cfg.devices.len(),
-    }
-}
-
-// Whether the thread with this number can run no more.
-fn has_ended_at(threads: &[ThreadState], t: ThreadId) -> bool
-    ensures { result ≡ option_map_or thread_words.has_ended (slice_get threads.now t.0) true }
-{
-    match threads.get(t.0 as usize) {
-        Some(thread) => has_ended(thread),
-        None => true,
     }
 }
 
@@ -131,19 +116,15 @@ impl Machine {
     {
         let steps = total_steps(config.threads.as_slice());
         let room = 4 * steps + beside(&config, drive, extra);
-        let parts = opening_parts(alloc, &config)?;
-        let threads = opening_threads(alloc, &config)?;
-        let rotator = Rotator::new(alloc, &config)?;
-        let items = Vec::with_capacity(alloc, room)?;
+        let state = State::opening(alloc, &config)?;
+        let journal = Journal::new(alloc, room)?;
         let ends = Vec::with_capacity(alloc, config.threads.len())?;
         Ok(Machine {
             config,
             drive,
             extra,
-            parts,
-            threads,
-            rotator,
-            items,
+            state,
+            journal,
             ends,
         })
     }
@@ -166,7 +147,7 @@ impl Machine {
     pub fn ended(&self, t: ThreadId) -> bool
         ensures { result ≡ ended_in (world_of self.now) t.0 }
     {
-        has_ended_at(self.threads.as_slice(), t)
+        self.state.has_ended(t)
     }
 
     /// The event that the thread's word of the script stands for.
@@ -176,15 +157,8 @@ impl Machine {
         requires extra { ended_in (world_of self.old) t.0 ≡ true → 1 ≤ self.old.extra }
         ensures { self.new ≡ stepped self.old t }
     {
-        let extra = extra_after(self.extra, has_ended_at(self.threads.as_slice(), t));
-        record_turn(
-            &self.config,
-            &mut self.parts,
-            self.threads.as_mut_slice(),
-            &mut self.rotator,
-            t,
-            &mut self.items,
-        );
+        let extra = extra_after(self.extra, self.state.has_ended(t));
+        self.state.turn(&self.config, t, &mut self.journal);
         self.extra = extra;
     }
 
@@ -199,15 +173,13 @@ impl Machine {
             config,
             drive: _,
             extra: _,
-            parts: _,
-            threads,
-            rotator: _,
-            items,
+            state,
+            journal,
             mut ends,
         } = self;
-        write_ends(threads.as_slice(), &mut ends);
+        write_ends(state.threads(), &mut ends);
         let log = Log {
-            items: Items::from_vec(items),
+            items: journal.into_items(),
             ends: Items::from_vec(ends),
         };
         (config, log)

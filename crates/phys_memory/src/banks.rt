@@ -4,9 +4,7 @@ ghost use Rattle.flat_model.specs.Memory as memory_words;
 ghost use Rattle.phys_memory.specs.Banks as spec;
 
 use crate::one_bank::{in_flash, in_peripherals, in_sram, put_in, word_in};
-use flat_model::{
-    Board, Items, Memory, OutOfMemory, Range, opening_memory, put_byte, put_word, word_at,
-};
+use flat_model::{Board, Memory, OutOfMemory, Range, opening_memory, put_byte, put_word, word_at};
 use std::alloc::Global;
 use std::marker::Model;
 
@@ -47,21 +45,6 @@ fn are_in_banks(board: &Board, a: u64, n: u32) -> bool
     n == 0 || (is_in_bank(board, a) && are_in_banks(board, a + 1, n - 1))
 }
 
-// The same board again.
-fn copied(alloc: Global, board: &Board) -> Result<Board, OutOfMemory>
-    ensures { IfOk result (λ copy. copy ≡ board.now) }
-{
-    let words = Vec::from_slice(alloc, board.words.as_slice())?;
-    Ok(Board {
-        flash: board.flash,
-        sram: board.sram,
-        peripherals: board.peripherals,
-        secret: board.secret,
-        words: Items::from_vec(words),
-        heap: board.heap,
-    })
-}
-
 impl Banks {
     /// The banks of a board: zero but for its words. They keep a copy of the board, so that no call can ask for an
     /// address by another board.
@@ -69,7 +52,7 @@ impl Banks {
         ensures { IfOk result (λ banks. banks ≡ spec.opening_banks board.now) }
     {
         let memory = opening_memory(alloc, board)?;
-        let board = copied(alloc, board)?;
+        let board = board.copied(alloc)?;
         Ok(Banks { board, memory })
     }
 

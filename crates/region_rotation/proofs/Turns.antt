@@ -12,19 +12,20 @@ use Rattle.addr_base.specs.declared.rights.Kind.{Kind}
 use Rattle.flat_model.specs.declared.boards.HeapPart.{HeapPart}
 use Rattle.flat_model.specs.declared.parts.BoxPart.{BoxPart}
 use Rattle.flat_model.specs.declared.parts.Config.{Config}
-use Rattle.flat_model.specs.Access.{may_access}
+use Rattle.flat_model.specs.Access.{holds}
 use Rattle.flat_model.specs.Decision.{decision, is_granted}
 use Rattle.flat_model.specs.Plan.{REGIONS, first_serving, flushed_pairs, next_slot, no_pair, page_pairs, plan_of, switch_slots}
 use Rattle.flat_model.specs.Sound.{IsSound}
 use Rattle.flat_model.specs.UnitRun.{UnitState, rotated}
+use Rattle.flat_model.specs.Circle.{IsTurnedBy}
 use Rattle.flat_model.proofs.Elements.{each-append, each-get, each_weaker}
 use Rattle.flat_model.proofs.PagePairs.{OfPages, each-page_pairs}
 use Rattle.flat_model.proofs.Flushing.{OnCircle-next, flushed_pairs-turned, length-cleared}
-use Rattle.flat_model.proofs.Granted.{HasOwners}
+use Rattle.flat_model.specs.Pages.{HasOwners}
 use Rattle.flat_model.proofs.Placed.{IsPlaced-from_sound}
 use Rattle.flat_model.proofs.Recovered.{IsPlanned, is_granted-recovered, is_some-recovered}
 use Rattle.flat_model.proofs.Recovery.{IsFirst-first_serving}
-use Rattle.flat_model.proofs.Turning.{IsTurnedBy, IsTurnedBy-set, IsTurnedBy-switch, touched_pairs}
+use Rattle.flat_model.proofs.Turning.{IsTurnedBy-set, IsTurnedBy-switch, touched_pairs}
 use Rattle.region_rotation.specs.declared.home.HomePairs.{HomePairs}
 use Rattle.region_rotation.specs.Ready.{IsHeapBelow, IsHome, IsKnown, IsOfPlan, IsReady, plan_at, slots_at}
 use Rattle.region_rotation.specs.Rotation.{Rotation, home_pairs, rotation_of}
@@ -138,11 +139,11 @@ module _ (cfg : Config) (unit : UnitState) (b : BoxId) (part : BoxPart) (owners 
     now_all : HasOwners cfg.board.heap owners
     now_all = subst (λ x. HasOwners x.heap owners) is all
 
-    pub held-recovered : is_some (first_serving a kind (plan_of cfg owners b.0 part)) ≡ may_access cfg owners b.0 a 1 kind
+    pub held-recovered : is_some (first_serving a kind (plan_of cfg owners b.0 part)) ≡ holds cfg owners b.0 a 1 kind
     held-recovered =
         is_some-recovered cfg owners b.0 part (IsPlaced-from_sound cfg it b.0 part found) found now_all unit.pairs turned a kind now_denied
 
-    pub granted-rotated : is_granted (decision (rotated unit (first_serving a kind (plan_of cfg owners b.0 part))).pairs a kind) ≡ may_access cfg owners b.0 a 1 kind
+    pub granted-rotated : is_granted (decision (rotated unit (first_serving a kind (plan_of cfg owners b.0 part))).pairs a kind) ≡ holds cfg owners b.0 a 1 kind
     granted-rotated =
         ap (λ ps. is_granted (decision ps a kind)) (pairs_are (first_serving a kind (plan_of cfg owners b.0 part)) ∙ sym touched)
         ∙ is_granted-recovered cfg owners b.0 part (IsPlaced-from_sound cfg it b.0 part found) found now_all unit.pairs turned a kind now_denied unit.circle now_ready.on

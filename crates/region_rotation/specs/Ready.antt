@@ -6,8 +6,7 @@ use Rattle.addr_base.specs.declared.pairs.Pair.{Pair}
 use Rattle.flat_model.specs.declared.boards.HeapPart.{HeapPart}
 use Rattle.flat_model.specs.Decision.{is_region}
 use Rattle.flat_model.specs.Plan.{REGIONS, no_pair, page_pairs, slots_from}
-use Rattle.flat_model.proofs.PagePairs.{IsGrouped}
-use Rattle.flat_model.proofs.Turning.{IsTurnedBy, OnCircle}
+use Rattle.flat_model.specs.Circle.{IsGrouped, IsTurnedBy, OnCircle}
 use Rattle.region_rotation.specs.declared.home.HomePairs.{HomePairs}
 
 -- a pair that a slot can be given

@@ -5,7 +5,7 @@ ghost use Rattle.addr_base.specs.declared.identity.BoxId.{BoxId};
 ghost use Rattle.addr_base.specs.declared.pairs.Verdict.TheVariants.{Denied};
 ghost use Rattle.flat_model.specs.declared.parts.BoxPart.{BoxPart};
 ghost use Rattle.flat_model.specs.declared.parts.Config.{Config};
-ghost use Rattle.flat_model.specs.Access.{may_access};
+ghost use Rattle.flat_model.specs.Access.{holds};
 ghost use Rattle.flat_model.specs.Decision.{decision, is_granted};
 ghost use Rattle.flat_model.specs.Plan.{REGIONS, first_serving, plan_of};
 ghost use Rattle.flat_model.specs.Sound.{IsSound};
@@ -74,7 +74,7 @@ impl Rotator {
     /// The rotator of a configuration: no box was entered, and all regions are disabled.
     pub fn new(alloc: Global, cfg: &Config) -> Result<Rotator, OutOfMemory>
         requires { IsSound cfg.now }
-        ensures { IfOk result (λ r. r ≡ rotation_of cfg.now opening_unit) }
+        ensures { IfOk result (λ r. r ≡ rotation_of cfg.now (opening_unit cfg.now)) }
     {
         let homes = homes_of(alloc, cfg)?;
         Ok(Rotator {
@@ -148,14 +148,14 @@ impl Rotator {
             → unit.last ≡ Some b
             → slice_get cfg.boxes b.0 ≡ Some part
             → IsSound cfg
-            → is_some result ≡ may_access cfg owners.now.items b.0 a 1 kind }
+            → is_some result ≡ holds cfg owners.now.items b.0 a 1 kind }
         ensures granted { (cfg : Config) (b : BoxId) (part : BoxPart) (unit : UnitState)
             → self.old ≡ rotation_of cfg unit
             → unit.last ≡ Some b
             → slice_get cfg.boxes b.0 ≡ Some part
             → IsSound cfg
             → is_granted (decision self.new.unit.pairs a kind)
-            ≡ may_access cfg owners.now.items b.0 a 1 kind }
+            ≡ holds cfg owners.now.items b.0 a 1 kind }
 
         ensures none { IfNone result (self.new ≡ self.old) }
         ensures last { self.new.unit.last ≡ self.old.unit.last }

@@ -1,16 +1,20 @@
 -- How the text of a configuration is printed, part by part.
-use Rattle.std.proofs.Common.{◌≡◌, ℕ, zero, suc, ◌+◌, ◌≤◌, List, [], ◌∷◌, ◌++◌, Option, length, get_or, take, drop, ◌<◌, sym, ◌∙◌, ap, subst, append_assoc, arith}
+use Rattle.std.proofs.Common.{◌≡◌, ℕ, zero, suc, ◌+◌, ◌≤◌, List, [], ◌∷◌, ◌++◌, Option, length, get_or, take, drop, ◌<◌, Result, Ok, Err, refl, sym, ◌∙◌, ap, subst, append_assoc, arith}
 use Rattle.std.specs.List.{AllByRecursion}
+use Rattle.std.specs.Prelude.{IsErr, ⊤}
 use Rattle.std.proofs.lemmas.List.{at_drop_more}
 use Rattle.std.proofs.lemmas.List.{append-nil}
 use Rattle.addr_base.specs.declared.ranges.Range.{Range}
 use Rattle.flat_model.specs.declared.boards.Board.{Board}
 use Rattle.flat_model.specs.declared.parts.BoxPart.{BoxPart}
 use Rattle.flat_model.specs.Sound.{IsBox}
+use Rattle.io_edge.specs.declared.whole.WriteErr.{WriteErr}
+use Rattle.io_edge.specs.Counts.{IsCounted, next_count}
 use Rattle.io_edge.specs.Written.{Wrote, WrotePart}
 use Rattle.io_edge.proofs.Written.{wrote-part, wrote_part-first}
 use Rattle.run_log.proofs.NameLemmas.{name_short}
-use Rattle.run_log.proofs.Printing.{wrote-both, wrote-longer, wrote-page, wrote-second}
+use Rattle.run_log.specs.Printed.{IsPrinted}
+use Rattle.run_log.proofs.Printing.{count_rose, printed_failed, wrote-both, wrote-longer, wrote-page, wrote-second}
 
 all-suc : {X : Type 0} (P : X → Type 0) → (i : ℕ) (xs : List X) → AllByRecursion P (drop i xs) → AllByRecursion P (drop (suc i) xs)
 all-suc P zero [] all = tt
@@ -21,6 +25,12 @@ all-suc P (suc i) (x ∷ xs) all = all-suc P i xs all
 -- what holds of each from a place on holds of each from the next place on
 pub all_from_next : {X : Type 0} (P : X → Type 0) → (i : ℕ) (xs : List X) → AllByRecursion P (drop i xs) → AllByRecursion P (drop (i + 1) xs)
 all_from_next P i xs all = let e : i + 1 ≡ suc i = omega arith in rw e (all-suc P i xs all)
+
+counted_from : {failed : Type 0} {before between after : ℕ} → between ≡ before → IsCounted failed between after → IsCounted failed before after
+counted_from same counted = record {
+  rose = λ failed. counted.rose failed ∙ ap next_count same;
+  kept = λ none. counted.kept none ∙ same;
+}
 
 -- a second text was printed after the first
 pub put_then : {old mid now : Option (List ℕ)} (page first second on after : List ℕ) → Wrote old mid (page ++ first) on → Wrote mid now (on ++ second) after → Wrote old now (page ++ (first ++ second)) after
@@ -36,6 +46,24 @@ part_then {old} {mid} {now} page first second on one part =
 pub part_first : {old now : Option (List ℕ)} (page first second : List ℕ) → WrotePart old now (page ++ first) → WrotePart old now (page ++ (first ++ second))
 part_first {old} {now} page first second part =
     subst (λ text. WrotePart old now text) (append_assoc page first second) (wrote_part-first old now (page ++ first) second part)
+
+-- a second text was printed after the first, or in part
+pub printed_then : {old mid now : Option (List ℕ)} {before between after : ℕ} (page first second on end : List ℕ) (r : Result ⊤ WriteErr) → Wrote old mid (page ++ first) on → between ≡ before → IsPrinted mid now between after (on ++ second) end r → IsPrinted old now before after (page ++ (first ++ second)) end r
+printed_then page first second on end (Ok x) one same two = record {
+  ok = put_then page first second on end one two.ok;
+  err = tt;
+  faults = counted_from same two.faults;
+}
+printed_then page first second on end (Err e) one same two = record {
+  ok = tt;
+  err = part_then page first second on one two.err;
+  faults = counted_from same two.faults;
+}
+
+-- the first of two texts was not all printed
+pub printed_first : {old now : Option (List ℕ)} {before after : ℕ} {e : WriteErr} (page first second on : List ℕ) (r : Result ⊤ WriteErr) → IsErr r → IsPrinted old now before after (page ++ first) on (Err e) → IsPrinted old now before after (page ++ (first ++ second)) on r
+printed_first page first second on r failed one =
+    printed_failed r failed (part_first page first second one.err) (count_rose refl one.faults)
 
 -- room was made, and a line was printed
 pub put_line : {old now : Option (List ℕ)} (page roomy line after : List ℕ) → Wrote old now page roomy → after ≡ roomy ++ line → Wrote old now (page ++ line) after

@@ -20,7 +20,7 @@ use Rattle.flat_model.specs.Trace.{World, world_after, world_reached}
 use Rattle.flat_model.proofs.Elements.{each-get}
 use Rattle.flat_model.proofs.TodayLemmas.{list_all-get}
 use Rattle.machine_core.specs.View.{MachineView, with_event, world_of}
-use Rattle.machine_core.proofs.KeptEvents.{choices-more, reached-more}
+use Rattle.machine_core.proofs.MachineLemmas.{choices-more, reached-more}
 use Rattle.uvisor_run.specs.Runnable.{is_runnable}
 use Rattle.uvisor_run.specs.Scripting.{runs_word}
 
@@ -33,7 +33,8 @@ thread_word cfg f w t is = rw is refl
 pub runnable_today : (cfg : Config) → is_runnable cfg ≡ true → RunsToday cfg
 runnable_today cfg runs = (and_parts (list_all thread_runs_today cfg.threads) (list_all (λ w. not (is_ring_word w)) cfg.script) runs).0
 
-word_by : (cfg : Config) (w : ScriptWord) → not (is_ring_word w) ≡ true → IsScriptWord cfg w → runs_word cfg w ≡ true
+-- a word that is no ring names a thread
+pub word_by : (cfg : Config) (w : ScriptWord) → not (is_ring_word w) ≡ true → IsScriptWord cfg w → runs_word cfg w ≡ true
 word_by cfg (word.Thread t) plain below = grind (arith, nat_tests)
 word_by cfg (word.Ring line) plain below = absurd (cc)
 

@@ -47,11 +47,14 @@ indexed_name name k = name ++ codes "." ++ decimal k
 abbrev pub thread_line : List ℕ → ℕ → ℕ → List ℕ
 thread_line name k steps = line_of (codes "thread" ∷ indexed_name name k ∷ codes "steps" ∷ decimal steps ∷ [])
 
--- the lines of a box's threads, the first of which has the index k: each with its steps and its program
+-- the lines of a box's thread with this index: its steps and its program
+abbrev pub thread_text : List ℕ → ℕ → ThreadPart → List ℕ
+thread_text name k thread = thread_line name k thread.steps ++ program_text 0 thread.program
+
+-- the lines of a box's threads, the first of which has the index k
 abbrev pub threads_text : List ℕ → ℕ → List ThreadPart → List ℕ
 threads_text name k [] = []
-threads_text name k (thread ∷ threads) =
-    (thread_line name k thread.steps ++ program_text 0 thread.program) ++ threads_text name (k + 1) threads
+threads_text name k (thread ∷ threads) = thread_text name k thread ++ threads_text name (k + 1) threads
 
 -- the threads of a box
 abbrev pub threads_of_box : Config → BoxPart → List ThreadPart
@@ -65,11 +68,21 @@ box_line name = line_of (codes "box" ∷ name ∷ [])
 abbrev pub server_line : ℕ → List ℕ
 server_line k = line_of (codes "server" ∷ decimal k ∷ [])
 
+-- the lines of a box's name and of its items
+abbrev pub holdings_text : BoxPart → List ℕ
+holdings_text part = box_line part.name ++ flat_map item_text part.items
+
+-- the lines of a box's name, of its items and of its interrupt lines
+abbrev pub head_text : BoxPart → List ℕ
+head_text part = holdings_text part ++ flat_map irq_text part.irqs
+
+-- the lines of a box's server and of its threads
+abbrev pub tail_text : Config → BoxPart → List ℕ
+tail_text cfg part = server_line (part.server.0 - part.first) ++ threads_text part.name 0 (threads_of_box cfg part)
+
 -- the lines of a box: its name, its items, its interrupt lines, its server and its threads
 abbrev pub box_text : Config → BoxPart → List ℕ
-box_text cfg part =
-    ((box_line part.name ++ flat_map item_text part.items) ++ flat_map irq_text part.irqs)
-    ++ (server_line (part.server.0 - part.first) ++ threads_text part.name 0 (threads_of_box cfg part))
+box_text cfg part = head_text part ++ tail_text cfg part
 
 -- what `check` prints
 unfoldable pub check_text : Config → List ℕ

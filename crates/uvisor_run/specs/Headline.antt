@@ -1,20 +1,19 @@
 -- What is known of a run of the program, sentence by sentence.
-use Rattle.std.specs.Prelude.{◌≡◌, ◌≢◌, ℕ, true, IfSome, Option, List, Ok}
+use Rattle.std.specs.Prelude.{◌≡◌, ◌≢◌, ◌≤◌, ◌⊎◌, ℕ, IfSome, Option, List, Ok}
 use Rattle.std.specs.Io.KnownBytes.{IsAtEnd, append_known}
-use Rattle.io_edge.specs.Counts.{Rose}
+use Rattle.io_edge.specs.Counts.{IsCounted}
 use Rattle.io_edge.specs.Written.{WrotePart}
 use Rattle.flat_model.specs.declared.logs.Log.{Log}
 use Rattle.flat_model.specs.declared.parts.Config.{Config}
-use Rattle.flat_model.specs.Legal.{IsAgreed, IsFlatRun, IsLegal, IsUnitRun}
+use Rattle.flat_model.specs.Legal.{IsAgreed, IsFlatRun, IsUnitRun}
 use Rattle.flat_model.specs.Log.{choices_of}
-use Rattle.flat_model.specs.OneLog.{script_log}
 use Rattle.flat_model.specs.Script.{script_choices}
+use Rattle.flat_model.specs.Sound.{IsSound}
 use Rattle.flat_model.specs.Text.{text_of}
 use Rattle.uvisor_run.specs.declared.commands.Command.{Command}
 use Rattle.uvisor_run.specs.declared.commands.Command.TheVariants.{Script}
 use Rattle.uvisor_run.specs.Accept.{config_of}
-use Rattle.uvisor_run.specs.Output.{Output, output_of}
-use Rattle.uvisor_run.specs.Runnable.{is_runnable}
+use Rattle.uvisor_run.specs.Output.{Output, output_of, usage_output}
 
 -- these are the bytes that the source had left, where it tells them
 abbrev pub WereLeft : Option (List ℕ) → List ℕ → Type 0
@@ -29,11 +28,18 @@ pub record IsDone (due : Output) (written now : Option (List ℕ)) (status : ℕ
   pub status_due : status ≡ due.status
   pub text_due : now ≡ append_known written due.text
 
--- What is due was told: it was done, or the status is that of a fault of the sink, and the beginning was written.
+-- What is due was told: it was done, or a write failed, which is counted once, and a front was written and a rest was not.
 pub record IsTold (due : Output) (written now : Option (List ℕ)) (before after status : ℕ) : Type 0 where
   pub done : status ≢ 4 → IsDone due written now status
   pub part : status ≡ 4 → WrotePart written now due.text
-  pub fault : status ≡ 4 → Rose before after
+  pub faults : IsCounted (status ≡ 4) before after
+
+-- What is due was told, or memory was refused before the first byte was written.
+pub record IsToldInMemory (due : Output) (written now : Option (List ℕ)) (before after status : ℕ) : Type 0 where
+  pub done : status ≢ 4 → status ≢ 5 → IsDone due written now status
+  pub part : status ≡ 4 → WrotePart written now due.text
+  pub memory : status ≡ 5 → now ≡ written
+  pub faults : IsCounted (status ≡ 4) before after
 
 -- what was due of some bytes that the source had left was done
 pub record IsAnswered (command : Command) (left written now : Option (List ℕ)) (status : ℕ) : Type 0 where
@@ -41,7 +47,7 @@ pub record IsAnswered (command : Command) (left written now : Option (List ℕ))
   pub were_left : WereLeft left bytes
   pub done : IsDone (output_of command bytes) written now status
 
--- the beginning was written of what was due of some bytes that the source had left
+-- of what was due of some bytes that the source had left a front was written and a rest was not
 pub record IsBroken (command : Command) (left written now : Option (List ℕ)) : Type 0 where
   pub bytes : List ℕ
   pub were_left : WereLeft left bytes
@@ -69,14 +75,26 @@ pub record IsScriptRun (left left_now written written_now : Option (List ℕ)) :
   pub grants : IsAgreed log
   pub text : written_now ≡ append_known written (text_of config log)
 
--- the script of a configuration was run: the one log of its choices is legal
-pub record IsRun (config : Config) : Type 0 where
-  pub legal : IsLegal config (script_log config)
-  pub choices : choices_of (script_log config).items ≡ script_choices config
-
--- the bytes are those of a configuration, whose script was run where the command is to run it
-pub record IsServed (command : Command) (bytes : List ℕ) : Type 0 where
+-- the bytes are those of a sound configuration
+pub record HasConfig (bytes : List ℕ) : Type 0 where
   pub config : Config
   pub accepted : config_of bytes ≡ Ok config
-  pub runnable : command ≡ Script → is_runnable config ≡ true
-  pub run : command ≡ Script → IsRun config
+  pub sound : IsSound config
+
+-- words that are no command: the usage line was told, and nothing was read
+pub record IsUsageRun (left left_now : Option (List ℕ)) (failed_reads failed_reads_now : ℕ) (written now : Option (List ℕ)) (failed_writes failed_writes_now status : ℕ) : Type 0 where
+  pub told : IsTold usage_output written now failed_writes failed_writes_now status
+  pub nothing_taken : left_now ≡ left
+  pub nothing_failed : failed_reads_now ≡ failed_reads
+
+-- What is known of a run of a command, by its status. The statuses 3 and 4 say that a read and that a write failed.
+pub record IsCommandRun (command : Command) (left left_now : Option (List ℕ)) (failed_reads failed_reads_now : ℕ) (written now : Option (List ℕ)) (failed_writes failed_writes_now status : ℕ) : Type 0 where
+  pub known : (status ≤ 1) ⊎ ((status ≡ 3) ⊎ ((status ≡ 4) ⊎ (status ≡ 5)))
+  pub answered : status ≤ 1 → IsAnswered command left written now status
+  pub accepted : status ≡ 0 → IsAccepted left left_now
+  pub script_run : status ≡ 0 → command ≡ Script → IsScriptRun left left_now written now
+  pub read_fault : status ≡ 3 → now ≡ written
+  pub broken : status ≡ 4 → IsBroken command left written now
+  pub memory : status ≡ 5 → now ≡ written
+  pub reads : IsCounted (status ≡ 3) failed_reads failed_reads_now
+  pub writes : IsCounted (status ≡ 4) failed_writes failed_writes_now

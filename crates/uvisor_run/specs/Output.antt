@@ -1,6 +1,7 @@
 -- What is due for the words of a command line and the bytes of an input: a status and a text.
 use Rattle.std.specs.Prelude.{ℕ, Option, Some, None, List, [], ◌∷◌, ◌++◌, codes, Result, Ok, Err, if◌then◌else◌}
 use Rattle.std.specs.Str.{bytes_eq}
+use Rattle.flat_model.specs.declared.logs.Log.{Log}
 use Rattle.flat_model.specs.declared.parts.Config.{Config}
 use Rattle.flat_model.specs.declared.refusals.Refused.{Refused}
 use Rattle.flat_model.specs.declared.refusals.Refused.TheVariants as refused
@@ -37,6 +38,10 @@ pub record Output : Type 0 where
 abbrev pub usage_output : Output
 usage_output = record { status = 2; text = usage_line }
 
+-- what is due for a log
+abbrev pub log_output : Config → Log → Output
+log_output cfg log = record { status = 0; text = text_of cfg log }
+
 -- what is due for an input that is refused
 abbrev pub refused_output : Refused → Output
 refused_output refusal = record { status = 1; text = refusal_line refusal }
@@ -45,7 +50,7 @@ refused_output refusal = record { status = 1; text = refusal_line refusal }
 abbrev pub output_for : Command → Config → Output
 output_for Check cfg = record { status = 0; text = check_text cfg }
 output_for Script cfg =
-    if is_runnable cfg then record { status = 0; text = text_of cfg (script_log cfg) } else refused_output refused.NotYet
+    if is_runnable cfg then log_output cfg (script_log cfg) else refused_output refused.NotYet
 
 -- what a command is due to write of an input with this answer
 abbrev pub output_by : Command → Result Config Refused → Output

@@ -21,7 +21,8 @@ pub(crate) const INPUT_LIMIT: usize = 4_194_304;
 // The table of a document.
 #[tactic(auto, using(crate::proofs::Documents::document_read, crate::proofs::Documents::document_unread))]
 fn read_document(alloc: Global, bytes: &[u8]) -> Result<Table, ConfigErr>
-    ensures ok { IfOk result (λ table. or_not_toml (document_of bytes.now) ≡ Ok (table_view table)) }
+    ensures ok { IfOk result (λ table.
+        or_not_toml (document_of bytes.now) ≡ Ok (table_view table)) }
     ensures cause { IfErr result (IsCause (or_not_toml (document_of bytes.now))) }
 {
     match toml::table_from_slice(alloc, bytes) {
@@ -48,7 +49,8 @@ fn or_memory<T>(read: Result<T, OutOfMemory>) -> Result<T, ConfigErr>
 #[tactic(auto, using(crate::proofs::Documents::no_refusal, crate::proofs::Documents::same_refusal))]
 fn keep_shape(document: &Table) -> Result<(), ConfigErr>
     ensures ok { IfOk result (λ kept. shape_refusal (table_view document.now) ≡ None) }
-    ensures cause { IfErr result (IsCause (unless_refused (shape_refusal (table_view document.now)) (table_view document.now))) }
+    ensures cause { IfErr result (IsCause
+        (unless_refused (shape_refusal (table_view document.now)) (table_view document.now))) }
 {
     match check_shape(document) {
         Ok(()) => Ok(()),
@@ -63,11 +65,14 @@ fn resolve_parts(
     board: Board,
     boxes: Vec<BoxText>,
 ) -> Result<Config, ConfigErr>
-    requires { IsResolvable (parts_of board boxes.items (gates_of (table_view document.now)) (devices_of (table_view document.now)) (script_of (table_view document.now))) }
+    requires { IsResolvable (parts_of board boxes.items (gates_of (table_view document.now))
+        (devices_of (table_view document.now)) (script_of (table_view document.now))) }
 
-    ensures ok { IfOk result (λ config. config_of_parts (table_view document.now) board boxes.items ≡ Ok config) }
+    ensures ok { IfOk result (λ config.
+        config_of_parts (table_view document.now) board boxes.items ≡ Ok config) }
     ensures sound { IfOk result IsSound }
-    ensures cause { IfErr result (IsCause (config_of_parts (table_view document.now) board boxes.items)) }
+    ensures cause { IfErr result (IsCause
+        (config_of_parts (table_view document.now) board boxes.items)) }
 {
     let gates = or_memory(read_gates(alloc, document))?;
     let devices = or_memory(read_devices(alloc, document))?;
@@ -110,7 +115,8 @@ pub(crate) fn accept_document(alloc: Global, bytes: &[u8]) -> Result<Accepted, C
     Ok(Accepted { document, config })
 }
 
-/// The configuration of an input, or its first refusal (docs/INPUT.md). Every configuration is sound.
+/// The configuration of an input, or its first refusal (docs/INPUT.md). Every configuration is
+/// sound.
 pub fn accept(alloc: Global, bytes: &[u8]) -> Result<Config, ConfigErr>
     ensures ok { IfOk result (λ config. config_of bytes.now ≡ Ok config) }
     ensures sound { IfOk result IsSound }

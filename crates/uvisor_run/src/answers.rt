@@ -24,7 +24,8 @@ pub const NO_MEMORY: u8 = 5;
 /// Writes how the program is called.
 #[tactic(auto, unfolding(crate::specs::Output::usage_line))]
 pub fn answer_usage<K: Sink>(sink: &mut K) -> u8
-    ensures { IsTold usage_output (K.written sink.old) (K.written sink.new) (K.faults sink.old) (K.faults sink.new) result }
+    ensures { IsTold usage_output
+        (K.written sink.old) (K.written sink.new) (K.faults sink.old) (K.faults sink.new) result }
 {
     let mut page = Page::new();
     page.push_bytes(b"usage: uvisor script | threads | check | make N | tally N\n");
@@ -36,7 +37,8 @@ pub fn answer_usage<K: Sink>(sink: &mut K) -> u8
 
 /// Writes the line of a refusal.
 pub fn answer_refusal<K: Sink>(refusal: Refused, sink: &mut K) -> u8
-    ensures { IsTold (refused_output refusal) (K.written sink.old) (K.written sink.new) (K.faults sink.old) (K.faults sink.new) result }
+    ensures { IsTold (refused_output refusal)
+        (K.written sink.old) (K.written sink.new) (K.faults sink.old) (K.faults sink.new) result }
 {
     let mut page = Page::new();
     push_refusal(refusal, &mut page);

@@ -9,6 +9,7 @@ use flat_model::{Instr, IrqPart, Item, Rights};
 use io_edge::{Sink, WriteErr};
 use run_log::Page;
 
+// Prints the letter of a right, where the right is there.
 fn push_letter(is_there: bool, text: u8, page: &mut Page)
     requires { length page.old + 1 ≤ 4096 }
     ensures text { page.new ≡ page.old ++ letter is_there (text ∷ []) }
@@ -19,6 +20,7 @@ fn push_letter(is_there: bool, text: u8, page: &mut Page)
     }
 }
 
+// Prints rights by their letters.
 fn push_rights(rights: Rights, page: &mut Page)
     requires { length page.old + 3 ≤ 4096 }
     ensures text { page.new ≡ page.old ++ rights_text rights }

@@ -1,11 +1,12 @@
-ghost use Rattle.std.specs.Prelude.{◌≡◌, ◌+◌, ◌≤◌, ◌-◌, ◌++◌, length, IsErr, OnErr, OnOk};
+ghost use Rattle.std.specs.Prelude.{◌≡◌, ◌≤◌, ◌-◌, ◌++◌, length, IsErr, OnErr, OnOk};
 ghost use Rattle.std.specs.Io.KnownBytes.{append_known};
 ghost use Rattle.std.specs.List.{AllByRecursion, flat_map};
 ghost use Rattle.flat_model.specs.Operands.{IsValidInstr};
 ghost use Rattle.flat_model.specs.Sound.{IsSound, IsThread};
-ghost use Rattle.io_edge.specs.Counts.{Rose};
-ghost use Rattle.io_edge.specs.Written.{Wrote, WrotePart};
-ghost use Rattle.uvisor_run.specs.CheckText.{box_line, box_text, check_text, irq_text, item_text, program_text, server_line, thread_line, threads_of_box, threads_text};
+ghost use Rattle.io_edge.specs.Counts.{IsCounted};
+ghost use Rattle.io_edge.specs.Written.{WrotePart};
+ghost use Rattle.run_log.specs.Printed.{IsPrinted};
+ghost use Rattle.uvisor_run.specs.CheckText.{box_line, box_text, check_text, head_text, holdings_text, irq_text, item_text, program_text, server_line, tail_text, thread_text, threads_of_box, threads_text};
 
 use crate::check_text::{
     push_box, push_instruction, push_irq, push_item, push_server, push_thread,
@@ -14,13 +15,10 @@ use flat_model::{BoxPart, Config, Instr, IrqPart, Item, ThreadPart};
 use io_edge::{Sink, WriteErr};
 use run_log::Page;
 
+// The items of a box.
 fn put_items<K: Sink>(items: &[Item], page: &mut Page, sink: &mut K) -> Result<(), WriteErr>
-    ensures ok { OnOk result (Wrote (K.written sink.old) (K.written sink.new)
-        (page.old ++ flat_map item_text items.now) page.new) }
-    ensures err { OnErr result (WrotePart (K.written sink.old) (K.written sink.new)
-        (page.old ++ flat_map item_text items.now)) }
-    ensures fault_only { IsErr result → Rose (K.faults sink.old) (K.faults sink.new) }
-    ensures later { K.faults sink.old ≤ K.faults sink.new }
+    ensures { IsPrinted (K.written sink.old) (K.written sink.new) (K.faults sink.old)
+        (K.faults sink.new) (page.old ++ flat_map item_text items.now) page.new result }
 {
     'items: for item in items {
         page.make_room(sink)?;
@@ -29,13 +27,10 @@ fn put_items<K: Sink>(items: &[Item], page: &mut Page, sink: &mut K) -> Result<(
     Ok(())
 }
 
+// The interrupt lines of a box.
 fn put_irqs<K: Sink>(irqs: &[IrqPart], page: &mut Page, sink: &mut K) -> Result<(), WriteErr>
-    ensures ok { OnOk result (Wrote (K.written sink.old) (K.written sink.new)
-        (page.old ++ flat_map irq_text irqs.now) page.new) }
-    ensures err { OnErr result (WrotePart (K.written sink.old) (K.written sink.new)
-        (page.old ++ flat_map irq_text irqs.now)) }
-    ensures fault_only { IsErr result → Rose (K.faults sink.old) (K.faults sink.new) }
-    ensures later { K.faults sink.old ≤ K.faults sink.new }
+    ensures { IsPrinted (K.written sink.old) (K.written sink.new) (K.faults sink.old)
+        (K.faults sink.new) (page.old ++ flat_map irq_text irqs.now) page.new result }
 {
     'items: for irq in irqs {
         page.make_room(sink)?;
@@ -44,15 +39,12 @@ fn put_irqs<K: Sink>(irqs: &[IrqPart], page: &mut Page, sink: &mut K) -> Result<
     Ok(())
 }
 
+// The instructions of a thread, from place 0 on.
 fn put_program<K: Sink>(program: &[Instr], page: &mut Page, sink: &mut K) -> Result<(), WriteErr>
     requires valid { AllByRecursion IsValidInstr program.now }
     requires short { length program.now ≤ 256 }
-    ensures ok { OnOk result (Wrote (K.written sink.old) (K.written sink.new)
-        (page.old ++ program_text 0 program.now) page.new) }
-    ensures err { OnErr result (WrotePart (K.written sink.old) (K.written sink.new)
-        (page.old ++ program_text 0 program.now)) }
-    ensures fault_only { IsErr result → Rose (K.faults sink.old) (K.faults sink.new) }
-    ensures later { K.faults sink.old ≤ K.faults sink.new }
+    ensures { IsPrinted (K.written sink.old) (K.written sink.new) (K.faults sink.old)
+        (K.faults sink.new) (page.old ++ program_text 0 program.now) page.new result }
 {
     'items: for (place, instr) in program.iter().enumerate() {
         page.make_room(sink)?;
@@ -71,12 +63,8 @@ fn put_thread<K: Sink>(
 ) -> Result<(), WriteErr>
     requires short { length name.now ≤ 16 }
     requires thread { IsThread thread.now }
-    ensures ok { OnOk result (Wrote (K.written sink.old) (K.written sink.new)
-        (page.old ++ (thread_line name.now k thread.now.steps ++ program_text 0 thread.now.program)) page.new) }
-    ensures err { OnErr result (WrotePart (K.written sink.old) (K.written sink.new)
-        (page.old ++ (thread_line name.now k thread.now.steps ++ program_text 0 thread.now.program))) }
-    ensures fault_only { IsErr result → Rose (K.faults sink.old) (K.faults sink.new) }
-    ensures later { K.faults sink.old ≤ K.faults sink.new }
+    ensures { IsPrinted (K.written sink.old) (K.written sink.new) (K.faults sink.old)
+        (K.faults sink.new) (page.old ++ thread_text name.now k thread.now) page.new result }
 {
     page.make_room(sink)?;
     push_thread(name, k, thread.steps, page);
@@ -93,12 +81,8 @@ fn put_threads<K: Sink>(
     requires short { length name.now ≤ 16 }
     requires few { length threads.now ≤ 16 }
     requires threads { AllByRecursion IsThread threads.now }
-    ensures ok { OnOk result (Wrote (K.written sink.old) (K.written sink.new)
-        (page.old ++ threads_text name.now 0 threads.now) page.new) }
-    ensures err { OnErr result (WrotePart (K.written sink.old) (K.written sink.new)
-        (page.old ++ threads_text name.now 0 threads.now)) }
-    ensures fault_only { IsErr result → Rose (K.faults sink.old) (K.faults sink.new) }
-    ensures later { K.faults sink.old ≤ K.faults sink.new }
+    ensures { IsPrinted (K.written sink.old) (K.written sink.new) (K.faults sink.old)
+        (K.faults sink.new) (page.old ++ threads_text name.now 0 threads.now) page.new result }
 {
     'items: for (k, thread) in threads.iter().enumerate() {
         put_thread(name, k as u32, thread, page, sink)?;
@@ -123,11 +107,8 @@ fn threads_of_box<'a>(config: &'a Config, part: &BoxPart) -> &'a [ThreadPart]
 // The name of a box.
 fn put_name<K: Sink>(name: &[u8], page: &mut Page, sink: &mut K) -> Result<(), WriteErr>
     requires short { length name.now ≤ 16 }
-    ensures ok { OnOk result (Wrote (K.written sink.old) (K.written sink.new)
-        (page.old ++ box_line name.now) page.new) }
-    ensures err { OnErr result (WrotePart (K.written sink.old) (K.written sink.new) (page.old ++ box_line name.now)) }
-    ensures fault_only { IsErr result → Rose (K.faults sink.old) (K.faults sink.new) }
-    ensures later { K.faults sink.old ≤ K.faults sink.new }
+    ensures { IsPrinted (K.written sink.old) (K.written sink.new) (K.faults sink.old)
+        (K.faults sink.new) (page.old ++ box_line name.now) page.new result }
 {
     page.make_room(sink)?;
     push_box(name, page);
@@ -136,10 +117,8 @@ fn put_name<K: Sink>(name: &[u8], page: &mut Page, sink: &mut K) -> Result<(), W
 
 // The index of a box's server.
 fn put_server<K: Sink>(k: u32, page: &mut Page, sink: &mut K) -> Result<(), WriteErr>
-    ensures ok { OnOk result (Wrote (K.written sink.old) (K.written sink.new) (page.old ++ server_line k) page.new) }
-    ensures err { OnErr result (WrotePart (K.written sink.old) (K.written sink.new) (page.old ++ server_line k)) }
-    ensures fault_only { IsErr result → Rose (K.faults sink.old) (K.faults sink.new) }
-    ensures later { K.faults sink.old ≤ K.faults sink.new }
+    ensures { IsPrinted (K.written sink.old) (K.written sink.new) (K.faults sink.old)
+        (K.faults sink.new) (page.old ++ server_line k) page.new result }
 {
     page.make_room(sink)?;
     push_server(k, page);
@@ -149,12 +128,8 @@ fn put_server<K: Sink>(k: u32, page: &mut Page, sink: &mut K) -> Result<(), Writ
 // The name of a box and its items.
 fn put_holdings<K: Sink>(part: &BoxPart, page: &mut Page, sink: &mut K) -> Result<(), WriteErr>
     requires { length part.now.name ≤ 16 }
-    ensures ok { OnOk result (Wrote (K.written sink.old) (K.written sink.new)
-        (page.old ++ (box_line part.now.name ++ flat_map item_text part.now.items)) page.new) }
-    ensures err { OnErr result (WrotePart (K.written sink.old) (K.written sink.new)
-        (page.old ++ (box_line part.now.name ++ flat_map item_text part.now.items))) }
-    ensures fault_only { IsErr result → Rose (K.faults sink.old) (K.faults sink.new) }
-    ensures later { K.faults sink.old ≤ K.faults sink.new }
+    ensures { IsPrinted (K.written sink.old) (K.written sink.new) (K.faults sink.old)
+        (K.faults sink.new) (page.old ++ holdings_text part.now) page.new result }
 {
     put_name(part.name.as_str().as_bytes(), page, sink)?;
     put_items(part.items.as_slice(), page, sink)
@@ -163,19 +138,14 @@ fn put_holdings<K: Sink>(part: &BoxPart, page: &mut Page, sink: &mut K) -> Resul
 // The name of a box, its items and its interrupt lines.
 fn put_head<K: Sink>(part: &BoxPart, page: &mut Page, sink: &mut K) -> Result<(), WriteErr>
     requires { length part.now.name ≤ 16 }
-    ensures ok { OnOk result (Wrote (K.written sink.old) (K.written sink.new)
-        (page.old ++ ((box_line part.now.name ++ flat_map item_text part.now.items)
-        ++ flat_map irq_text part.now.irqs)) page.new) }
-    ensures err { OnErr result (WrotePart (K.written sink.old) (K.written sink.new)
-        (page.old ++ ((box_line part.now.name ++ flat_map item_text part.now.items)
-        ++ flat_map irq_text part.now.irqs))) }
-    ensures fault_only { IsErr result → Rose (K.faults sink.old) (K.faults sink.new) }
-    ensures later { K.faults sink.old ≤ K.faults sink.new }
+    ensures { IsPrinted (K.written sink.old) (K.written sink.new) (K.faults sink.old)
+        (K.faults sink.new) (page.old ++ head_text part.now) page.new result }
 {
     put_holdings(part, page, sink)?;
     put_irqs(part.irqs.as_slice(), page, sink)
 }
 
+// The place of a box's server among its threads.
 fn server_index(part: &BoxPart) -> u32
     ensures { result ≡ part.now.server.0 - part.now.first }
 {
@@ -191,14 +161,8 @@ fn put_tail<K: Sink>(
 ) -> Result<(), WriteErr>
     requires sound { IsSound config.now }
     requires short { length part.now.name ≤ 16 }
-    ensures ok { OnOk result (Wrote (K.written sink.old) (K.written sink.new)
-        (page.old ++ (server_line (part.now.server.0 - part.now.first)
-        ++ threads_text part.now.name 0 (threads_of_box config.now part.now))) page.new) }
-    ensures err { OnErr result (WrotePart (K.written sink.old) (K.written sink.new)
-        (page.old ++ (server_line (part.now.server.0 - part.now.first)
-        ++ threads_text part.now.name 0 (threads_of_box config.now part.now)))) }
-    ensures fault_only { IsErr result → Rose (K.faults sink.old) (K.faults sink.new) }
-    ensures later { K.faults sink.old ≤ K.faults sink.new }
+    ensures { IsPrinted (K.written sink.old) (K.written sink.new) (K.faults sink.old)
+        (K.faults sink.new) (page.old ++ tail_text config.now part.now) page.new result }
 {
     put_server(server_index(part), page, sink)?;
     put_threads(
@@ -218,25 +182,19 @@ fn put_box<K: Sink>(
 ) -> Result<(), WriteErr>
     requires sound { IsSound config.now }
     requires short { length part.now.name ≤ 16 }
-    ensures ok { OnOk result (Wrote (K.written sink.old) (K.written sink.new)
-        (page.old ++ box_text config.now part.now) page.new) }
-    ensures err { OnErr result (WrotePart (K.written sink.old) (K.written sink.new)
-        (page.old ++ box_text config.now part.now)) }
-    ensures fault_only { IsErr result → Rose (K.faults sink.old) (K.faults sink.new) }
-    ensures later { K.faults sink.old ≤ K.faults sink.new }
+    ensures { IsPrinted (K.written sink.old) (K.written sink.new) (K.faults sink.old)
+        (K.faults sink.new) (page.old ++ box_text config.now part.now) page.new result }
 {
     put_head(part, page, sink)?;
     put_tail(config, part, page, sink)
 }
 
+// All boxes.
 fn put_boxes<K: Sink>(config: &Config, page: &mut Page, sink: &mut K) -> Result<(), WriteErr>
     requires sound { IsSound config.now }
-    ensures ok { OnOk result (Wrote (K.written sink.old) (K.written sink.new)
-        (page.old ++ flat_map (box_text config.now) config.now.boxes) page.new) }
-    ensures err { OnErr result (WrotePart (K.written sink.old) (K.written sink.new)
-        (page.old ++ flat_map (box_text config.now) config.now.boxes)) }
-    ensures fault_only { IsErr result → Rose (K.faults sink.old) (K.faults sink.new) }
-    ensures later { K.faults sink.old ≤ K.faults sink.new }
+    ensures { IsPrinted (K.written sink.old) (K.written sink.new) (K.faults sink.old)
+        (K.faults sink.new) (page.old ++ flat_map (box_text config.now) config.now.boxes)
+        page.new result }
 {
     let boxes = config.boxes.as_slice();
     'items: for part in boxes {
@@ -250,11 +208,13 @@ fn put_boxes<K: Sink>(config: &Config, page: &mut Page, sink: &mut K) -> Result<
 pub fn write_check<K: Sink>(config: &Config, sink: &mut K) -> Result<(), WriteErr>
     requires sound { IsSound config.now }
 
-    ensures ok { OnOk result (K.written sink.new ≡ append_known (K.written sink.old) (check_text config.now)) }
-    ensures err { OnErr result (WrotePart (K.written sink.old) (K.written sink.new) (check_text config.now)) }
+    ensures ok { OnOk result (K.written sink.new
+        ≡ append_known (K.written sink.old) (check_text config.now)) }
+    ensures err { OnErr result (WrotePart (K.written sink.old) (K.written sink.new)
+        (check_text config.now)) }
 
-    ensures fault_only { IsErr result → Rose (K.faults sink.old) (K.faults sink.new) }
-    ensures later { K.faults sink.old ≤ K.faults sink.new }
+    // It fails exactly where a write failed, which is counted once.
+    ensures faults { IsCounted (IsErr result) (K.faults sink.old) (K.faults sink.new) }
 {
     let mut page = Page::new();
     put_boxes(config, &mut page, sink)?;

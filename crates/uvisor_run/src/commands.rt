@@ -8,6 +8,7 @@ pub enum Command {
     Check,
 }
 
+// The command that this word is.
 fn command_named(word: &str) -> Option<Command>
     ensures { result ≡ command_named word.now }
 {

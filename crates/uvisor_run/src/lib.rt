@@ -18,6 +18,7 @@ pub use acceptance::accept;
 pub use check_writing::write_check;
 pub use laws::{
     a_legal_log_is_the_log_of_its_choices, grants_need_no_history, legal_logs_are_named,
+    script_logs_are_legal,
 };
 pub use scripting::run_script;
 pub use top::scripted;

@@ -7,6 +7,7 @@ use board_map::key_name;
 use flat_model::{Key, Refused, Spot};
 use run_log::Page;
 
+// Prints a word with a space before it.
 fn push_word(word: &str, page: &mut Page)
     requires short { length word.now ≤ 16 }
     requires room { length page.old + 17 ≤ 4096 }
@@ -17,6 +18,7 @@ fn push_word(word: &str, page: &mut Page)
     page.push_bytes(word.as_bytes());
 }
 
+// Prints what is counted, and its number.
 fn push_numbered(name: &str, n: u32, page: &mut Page)
     requires short { length name.now ≤ 16 }
     requires room { length page.old + 28 ≤ 4096 }
@@ -28,6 +30,7 @@ fn push_numbered(name: &str, n: u32, page: &mut Page)
     page.push_decimal(n);
 }
 
+// Prints a place in a box: the box, what is counted there, and its number.
 fn push_place(i: u32, name: &str, j: u32, page: &mut Page)
     requires short { length name.now ≤ 16 }
     requires room { length page.old + 56 ≤ 4096 }
@@ -38,6 +41,7 @@ fn push_place(i: u32, name: &str, j: u32, page: &mut Page)
     push_numbered(name, j, page);
 }
 
+// Prints a place in the input.
 fn push_spot(spot: Spot, page: &mut Page)
     requires { length page.old + 56 ≤ 4096 }
     ensures text { page.new ≡ page.old ++ spaced (spot_words spot) }
@@ -57,6 +61,7 @@ fn push_spot(spot: Spot, page: &mut Page)
     }
 }
 
+// The name of a key, which is short.
 #[tactic(auto, using(crate::proofs::WordLengths::key_name_short))]
 fn short_key(key: Key) -> &'static str
     ensures text { result.now ≡ key_name key }
@@ -65,6 +70,7 @@ fn short_key(key: Key) -> &'static str
     key_name(key)
 }
 
+// Prints the name of a key.
 fn push_key(key: Key, page: &mut Page)
     requires { length page.old + 17 ≤ 4096 }
     ensures text { page.new ≡ page.old ++ spaced (key_name key ∷ []) }
@@ -73,6 +79,7 @@ fn push_key(key: Key, page: &mut Page)
     push_word(short_key(key), page);
 }
 
+// Prints a refusal of a key at a place.
 fn push_at_key(name: &str, spot: Spot, key: Key, page: &mut Page)
     requires short { length name.now ≤ 16 }
     requires room { length page.old + 90 ≤ 4096 }
@@ -84,6 +91,7 @@ fn push_at_key(name: &str, spot: Spot, key: Key, page: &mut Page)
     push_key(key, page);
 }
 
+// Prints a refusal of a place.
 fn push_at_spot(name: &str, spot: Spot, page: &mut Page)
     requires short { length name.now ≤ 16 }
     requires room { length page.old + 90 ≤ 4096 }
@@ -94,6 +102,7 @@ fn push_at_spot(name: &str, spot: Spot, page: &mut Page)
     push_spot(spot, page);
 }
 
+// Prints a refusal of a box.
 fn push_at_box(name: &str, i: u32, page: &mut Page)
     requires short { length name.now ≤ 16 }
     requires room { length page.old + 90 ≤ 4096 }
@@ -104,6 +113,7 @@ fn push_at_box(name: &str, i: u32, page: &mut Page)
     push_numbered("box", i, page);
 }
 
+// Prints a refusal of something in a box.
 fn push_at_place(name: &str, i: u32, inner: &str, j: u32, page: &mut Page)
     requires short { length name.now ≤ 16 }
     requires short_inner { length inner.now ≤ 16 }
@@ -115,6 +125,7 @@ fn push_at_place(name: &str, i: u32, inner: &str, j: u32, page: &mut Page)
     push_place(i, inner, j, page);
 }
 
+// Prints a refusal of a grant of a box.
 fn push_at_grant(name: &str, i: u32, j: u32, page: &mut Page)
     requires short { length name.now ≤ 16 }
     requires room { length page.old + 90 ≤ 4096 }
@@ -124,6 +135,7 @@ fn push_at_grant(name: &str, i: u32, j: u32, page: &mut Page)
     push_at_place(name, i, "grant", j, page);
 }
 
+// Prints a refusal of something counted in the whole input.
 fn push_at_number(name: &str, what: &str, n: u32, page: &mut Page)
     requires short { length name.now ≤ 16 }
     requires short_what { length what.now ≤ 16 }
@@ -135,6 +147,7 @@ fn push_at_number(name: &str, what: &str, n: u32, page: &mut Page)
     push_numbered(what, n, page);
 }
 
+// Prints the refusal of a line of a program.
 fn push_bad_program(i: u32, j: u32, line: u32, page: &mut Page)
     requires { length page.old + 110 ≤ 4096 }
     ensures text { page.new ≡ page.old ++ spaced (refusal_words (Refused.BadProgram i j line)) }
@@ -145,6 +158,7 @@ fn push_bad_program(i: u32, j: u32, line: u32, page: &mut Page)
     push_numbered("line", line, page);
 }
 
+// Prints the refusal of a key of the board.
 fn push_at_key_name(key: Key, page: &mut Page)
     requires { length page.old + 90 ≤ 4096 }
     ensures text { page.new ≡ page.old ++ spaced (refusal_words (Refused.BadBoard key)) }
@@ -154,6 +168,7 @@ fn push_at_key_name(key: Key, page: &mut Page)
     push_key(key, page);
 }
 
+// Prints the words of a refusal, each with a space before it.
 fn push_words(refusal: Refused, page: &mut Page)
     requires { length page.old + 110 ≤ 4096 }
     ensures text { page.new ≡ page.old ++ spaced (refusal_words refusal) }

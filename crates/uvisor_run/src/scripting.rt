@@ -21,7 +21,8 @@ fn run_word(machine: &mut Machine, word: ScriptWord)
     ensures drive { machine.new.drive ≡ machine.old.drive }
     ensures extra { machine.old.extra ≤ machine.new.extra + 1 }
     ensures items { machine.new.items
-        ≡ with_event machine.old (choice_of_word machine.old.config (world_of machine.old).flat word) }
+        ≡ with_event machine.old
+        (choice_of_word machine.old.config (world_of machine.old).flat word) }
 {
     match word {
         ScriptWord::Thread(t) => machine.script_step(t),
@@ -53,7 +54,8 @@ fn run_words(machine: &mut Machine, words: usize)
     }
 }
 
-/// Runs the boxes of a configuration by its script, and answers the configuration as it was and the log.
+/// Runs the boxes of a configuration by its script, and answers the configuration as it was and the
+/// log.
 pub fn run_script(alloc: Global, config: Config) -> Result<(Config, Log), OutOfMemory>
     requires sound { IsSound config }
     requires runnable { is_runnable config ≡ true }

@@ -1,13 +1,12 @@
-use Rattle.std.proofs.Common.{◌≡◌, ℕ, suc, ◌+◌, ◌*◌, ◌%◌, ◌^◌, ◌<◌, ◌≤◌, Bool, true, false, List, length, get_or, Option, Some, None, refl, sym, ◌∙◌, ap, arith}
-use Rattle.std.specs.Prelude.{if◌then◌else◌}
-use Rattle.std.specs.Option.{option_map_or}
+use Rattle.std.proofs.Common.{◌≡◌, ℕ, suc, ◌+◌, ◌*◌, ◌%◌, ◌^◌, ◌<◌, ◌≤◌, Bool, true, false, List, length, get_or, Option, None, sym, ◌∙◌, ap, arith}
+use Rattle.std.specs.Prelude.{if◌then◌else◌, unwrap_or}
 use Rattle.std.proofs.lemmas.Nat.{one_shl}
 use Rattle.std.proofs.lemmas.Option.{slice_get-get_or}
 use Rattle.std.proofs.Math.Nat.{pow-le-pow_right, pow-suc}
 use Rattle.std.proofs.Math.Numerals.{add-one}
 use Rattle.addr_base.specs.declared.identity.BoxId.{BoxId}
-use Rattle.flat_model.specs.Access.{owned_by}
-use Rattle.flat_model.specs.Plan.{owned_mask, owns}
+use Rattle.flat_model.specs.Access.{owned_by, owns}
+use Rattle.flat_model.specs.Plan.{owned_mask}
 use Rattle.flat_model.proofs.PagePairs.{owned_mask_below}
 use Rattle.region_rotation.proofs.pages.mask_of.Goals as goal
 use Rattle.region_rotation.proofs.pages.mask_of.Goals.{then-is_owner, else-is_owner}
@@ -19,14 +18,9 @@ mask_fits m i below small =
     let top : 2 ^ suc i ≤ 2 ^ 8 = pow-le-pow_right (omega arith) {i = suc i} {j = 8} small in
     omega (arith, bit, top, pow-suc 2 i)
 
-owned_option : (b : ℕ) (o : Option BoxId) → option_map_or (λ (id : BoxId). owned_by b (Some id)) o false ≡ owned_by b o
-owned_option b None = refl
-owned_option b (Some id) = refl
-
 owns-get_or : (owners : List (Option BoxId)) (b f : ℕ) (d : Option BoxId) → f < length owners → owns owners b f ≡ owned_by b (get_or owners f d)
 owns-get_or owners b f d below =
-    ap (λ o. option_map_or (λ owner. option_map_or (λ (id : BoxId). owned_by b (Some id)) owner false) o false) (slice_get-get_or owners f d below)
-    ∙ owned_option b (get_or owners f d)
+    ap (λ o. owned_by b (unwrap_or o None)) (slice_get-get_or owners f d below)
 
 more : (owners : List (Option BoxId)) (b first i m : ℕ) (t : Bool) → owns owners b (first + i) ≡ t → m ≡ owned_mask owners b first i + (if t then 2 ^ i else 0) → m ≡ owned_mask owners b first (i + 1)
 more owners b first i m t is sum =

@@ -1,4 +1,4 @@
-use Rattle.std.proofs.Common.{◌≤◌, ◌++◌, drop}
+use Rattle.std.proofs.Common.{◌≡◌, ◌++◌, drop}
 use Rattle.std.specs.List.{AllByRecursion, flat_map}
 use Rattle.flat_model.specs.Sound.{IsBox}
 use Rattle.flat_model.specs.Placing.{common_range}
@@ -11,5 +11,5 @@ invariant-items g l = record {
   so_far : Wrote (g.K.Sink.written l.fn.sink) (g.K.Sink.written l.sink) (l.fn.page ++ flat_map (box_text l.fn.config) l.boxes)
       (l.page ++ flat_map (box_text l.fn.config) (drop l.part-index l.boxes));
   each : AllByRecursion (IsBox l.fn.config.board (common_range l.fn.config.board l.fn.config.boxes)) (drop l.part-index l.boxes);
-  later : g.K.Sink.faults l.fn.sink ≤ g.K.Sink.faults l.sink;
+  counted : g.K.Sink.faults l.sink ≡ g.K.Sink.faults l.fn.sink;
 }

@@ -1,4 +1,4 @@
-use Rattle.std.proofs.Common.{◌≤◌, ◌++◌, drop}
+use Rattle.std.proofs.Common.{◌≡◌, ◌++◌, drop}
 use Rattle.std.specs.List.{flat_map}
 use Rattle.io_edge.specs.Written.{Wrote}
 use Rattle.uvisor_run.specs.CheckText.{irq_text}
@@ -8,5 +8,5 @@ abbrev pub invariant-items : goal.invariant-items
 invariant-items g l = record {
   so_far : Wrote (g.K.Sink.written l.fn.sink) (g.K.Sink.written l.sink) (l.fn.page ++ flat_map irq_text l.fn.irqs)
       (l.page ++ flat_map irq_text (drop l.irq-index l.irqs));
-  later : g.K.Sink.faults l.fn.sink ≤ g.K.Sink.faults l.sink;
+  counted : g.K.Sink.faults l.sink ≡ g.K.Sink.faults l.fn.sink;
 }

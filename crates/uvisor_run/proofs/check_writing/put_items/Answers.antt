@@ -1,8 +1,8 @@
-use Rattle.std.proofs.Common.{arith}
+use Rattle.std.proofs.Common.{rules}
 use Rattle.std.specs.List.{flat_map}
 use Rattle.std.proofs.lemmas.List.{at_drop_more}
 use Rattle.io_edge.proofs.Written.{wrote-part}
-use Rattle.run_log.proofs.Printing.{on_err, wrote-line}
+use Rattle.run_log.proofs.Printing.{count_kept, count_rose, printed_failed, wrote-line}
 use Rattle.uvisor_run.specs.CheckText.{item_text}
 use Rattle.uvisor_run.proofs.check_writing.put_items.Goals as goal
 
@@ -11,8 +11,11 @@ items-preserved g c = record {
   so_far = wrote-line c.items.page c.make_room.new.self c.push_item.new.page _ _ _
       (at_drop_more (flat_map item_text) c.args.items.now c.items.item-index _ c.items-test.true)
       c.items.invariant.so_far c.in_ok-make_room.ensures.ok c.push_item.ensures;
-  later = omega arith;
+  counted = count_kept c.items.invariant.counted c.in_ok-make_room.ensures.faults;
 }
 
-pub returns-in_err-make_room-clause-err : goal.returns-in_err-make_room-clause-err
-returns-in_err-make_room-clause-err g c = on_err c.from_residual.result (wrote-part c.items.page _ c.items.invariant.so_far c.in_err-make_room.ensures.err)
+pub returns-in_err-make_room : goal.returns-in_err-make_room
+returns-in_err-make_room g c =
+    printed_failed c.from_residual.result (search rules)
+    (wrote-part c.items.page _ c.items.invariant.so_far c.in_err-make_room.ensures.err)
+    (count_rose c.items.invariant.counted c.in_err-make_room.ensures.faults)

@@ -1,8 +1,8 @@
-use Rattle.std.proofs.Common.{arith}
+use Rattle.std.proofs.Common.{rules}
 use Rattle.std.proofs.lemmas.List.{at_drop_more}
 use Rattle.flat_model.specs.Operands.{IsValidInstr}
 use Rattle.io_edge.proofs.Written.{wrote-part}
-use Rattle.run_log.proofs.Printing.{on_err, wrote-line}
+use Rattle.run_log.proofs.Printing.{count_kept, count_rose, printed_failed, wrote-line}
 use Rattle.uvisor_run.specs.CheckText.{program_text}
 use Rattle.uvisor_run.proofs.Checking.{all_from_next}
 use Rattle.uvisor_run.proofs.check_writing.put_program.Goals as goal
@@ -13,8 +13,11 @@ items-preserved g c = record {
       (at_drop_more (program_text c.items.place) c.args.program.now c.items.place _ c.items-test.true)
       c.items.invariant.so_far c.in_ok-make_room.ensures.ok c.push_instruction.ensures;
   valid = all_from_next IsValidInstr c.items.place c.args.program.now c.items.invariant.valid;
-  later = omega arith;
+  counted = count_kept c.items.invariant.counted c.in_ok-make_room.ensures.faults;
 }
 
-pub returns-in_err-make_room-clause-err : goal.returns-in_err-make_room-clause-err
-returns-in_err-make_room-clause-err g c = on_err c.from_residual.result (wrote-part c.items.page _ c.items.invariant.so_far c.in_err-make_room.ensures.err)
+pub returns-in_err-make_room : goal.returns-in_err-make_room
+returns-in_err-make_room g c =
+    printed_failed c.from_residual.result (search rules)
+    (wrote-part c.items.page _ c.items.invariant.so_far c.in_err-make_room.ensures.err)
+    (count_rose c.items.invariant.counted c.in_err-make_room.ensures.faults)

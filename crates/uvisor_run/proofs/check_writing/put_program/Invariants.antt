@@ -1,4 +1,4 @@
-use Rattle.std.proofs.Common.{◌≤◌, ◌++◌, drop}
+use Rattle.std.proofs.Common.{◌≡◌, ◌++◌, drop}
 use Rattle.std.specs.List.{AllByRecursion}
 use Rattle.flat_model.specs.Operands.{IsValidInstr}
 use Rattle.io_edge.specs.Written.{Wrote}
@@ -10,5 +10,5 @@ invariant-items g l = record {
   so_far : Wrote (g.K.Sink.written l.fn.sink) (g.K.Sink.written l.sink) (l.fn.page ++ program_text 0 l.fn.program)
       (l.page ++ program_text l.place (drop l.place l.program));
   valid : AllByRecursion IsValidInstr (drop l.place l.program);
-  later : g.K.Sink.faults l.fn.sink ≤ g.K.Sink.faults l.sink;
+  counted : g.K.Sink.faults l.sink ≡ g.K.Sink.faults l.fn.sink;
 }

@@ -11,7 +11,7 @@ use Rattle.flat_model.specs.Decision.{decision, is_granted}
 use Rattle.flat_model.specs.Plan.{first_serving, plan_of}
 use Rattle.flat_model.specs.UnitRun.{rotated}
 use Rattle.flat_model.proofs.Elements.{each-get}
-use Rattle.flat_model.proofs.Granted.{HasOwners}
+use Rattle.flat_model.specs.Pages.{HasOwners}
 use Rattle.region_rotation.specs.declared.home.HomePairs.{HomePairs}
 use Rattle.region_rotation.specs.Ready.{IsHome, IsReady, plan_at}
 use Rattle.region_rotation.specs.Rotation.{Rotation, rotation_of}

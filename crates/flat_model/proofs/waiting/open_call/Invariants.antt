@@ -1,7 +1,0 @@
-use Rattle.std.proofs.Common.{◌≡◌, drop}
-use Rattle.flat_model.specs.Calls as calls_words
-use Rattle.flat_model.proofs.waiting.open_call.Given as goal
-
-abbrev pub invariant-loop-call : goal.invariant-loop-call
-invariant-loop-call l =
-    calls_words.open_call l.ticket l.calls ≡ calls_words.open_call l.ticket (drop l.call-index l.calls)
