@@ -4,6 +4,7 @@
 # `check`, and NAME.script-line that of `script` where `check` refuses nothing. NAME.explain, NAME.counts, NAME.scheduled,
 # NAME.board-map, NAME.map.svg, NAME.run.svg and, in refused/, NAME.lint are those of the tools; NAME.map and NAME.who come
 # from NAME.check alone.
+# What `main` answers to words that are no command, and with its output closed, is compared with what is due.
 # It runs the proved build where there is one, else an unproved build that it makes once for each command. Then the tools
 # that run the program themselves are passed over, since each call would make a build of its own.
 # Prints 'N of N as stored', and ends with 1 where something differs.
@@ -67,6 +68,37 @@ told() {
     fi
 }
 
+# main_answers NAME STATUS TEXT: counts an answer of `main`, which stands in $work/main with its status
+main_answers() {
+    all=$((all + 1))
+    if [ "$(cat "$work/main.status")" != "$2" ]; then
+        echo "main, $1: the status is not $2"
+    elif ! printf '%s' "$3" | cmp -s - "$work/main"; then
+        echo "main, $1: the output differs"
+    else
+        same=$((same + 1))
+    fi
+}
+
+# words NAME STATUS TEXT WORD..: asks `main` with these words and an empty input
+words() {
+    local name=$1 status=$2 text=$3
+    shift 3
+    scripts/uvisor "$@" </dev/null >"$work/main" 2>/dev/null
+    echo $? >"$work/main.status"
+    main_answers "$name" "$status" "$text"
+}
+
+# closed NAME STATUS WORD..: asks the proved build with its output closed
+closed() {
+    local name=$1 status=$2
+    shift 2
+    "$proved" "$@" <examples/01-one-box.toml >&- 2>/dev/null
+    echo $? >"$work/main.status"
+    : >"$work/main"
+    main_answers "$name" "$status" ""
+}
+
 # tool STORED COMMAND..: compares what an outside tool prints, where its output is stored; standard input goes to it
 tool() {
     local stored=$1
@@ -116,5 +148,17 @@ for input in "${refused[@]}"; do
     tools "$name" "$input"
 done
 [ "$passed" -eq 0 ] || echo "run-examples: the tools that run the program were passed over on $passed inputs" >&2
+usage='usage: uvisor script | threads | check | make N | tally N
+'
+words "no word" 2 "$usage"
+words "a wrong word" 2 "$usage" scripts
+if [ -x "$proved" ]; then
+    words "a word that is not UTF-8" 2 "$usage" $'check\xff'
+    closed "a closed output of script" 4 script
+    closed "a closed output of check" 4 check
+    closed "a closed output of the usage line" 4
+else
+    echo "run-examples: 'rt try' passes no word that is not UTF-8 and no closed output: these are left out" >&2
+fi
 echo "$same of $all as stored"
 [ "$same" -eq "$all" ]

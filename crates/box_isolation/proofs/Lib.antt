@@ -1,0 +1,15 @@
+pub mod AlikeBoxes
+pub mod Isolating
+pub mod ListedBytes
+pub mod MeetsCalls
+pub mod MeetsLines
+pub mod MeetsMemory
+pub mod NotedBytes
+pub mod OtherEvents
+pub mod OwnEvents
+pub mod OwnSteps
+pub mod SeenBytes
+pub mod Settled
+pub mod SparesRows
+pub mod WholeIsolation
+pub mod WorkedIsolation

@@ -1,0 +1,10 @@
+pub mod Alone
+pub mod AloneCalls
+pub mod AloneLines
+pub mod AloneMemory
+pub mod AloneState
+pub mod Arrivals
+pub mod Isolation
+pub mod Part
+pub mod Reach
+pub mod Supplies
