@@ -1,2 +1,5 @@
 mod inboxes;
 mod lines;
+mod passing;
+mod races;
+mod ringing;
