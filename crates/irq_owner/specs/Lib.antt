@@ -1,0 +1,4 @@
+pub mod Bits
+pub mod Irqs
+pub mod Kept
+pub mod Sample

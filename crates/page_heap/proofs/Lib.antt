@@ -1,0 +1,3 @@
+pub mod FixtureSound
+pub mod FreeFrames
+pub mod PageBytes

@@ -1,0 +1,4 @@
+pub mod CountLemmas
+pub mod SampleLemmas
+pub mod ServingLemmas
+pub mod SetLemmas

@@ -1,0 +1,4 @@
+pub mod Calls
+pub mod Kept
+pub mod Sample
+pub mod Servers
