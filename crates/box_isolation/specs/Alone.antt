@@ -1,6 +1,6 @@
 -- The lone machine: the replies of a box by itself to what reached it. It answers from its part and from what reached
 -- it alone. It imports the words of one thread and of its instructions (Thread, Local, Classes, Cells) and what an
--- access needs (Access), and nothing else of the flat machine: no step, no run, no holder of pages and no log.
+-- access needs (Access), and data types, and nothing else of the flat machine: no step, no run, no owners and no log.
 use Rattle.std.specs.Prelude.{ℕ, Bool, false, ◌&&◌, nat_eq, Option, Some, None, List, [], ◌∷◌, length, replicate, if◌then◌else◌, slice_get, slice_set}
 use Rattle.std.specs.Option.{option_map_or}
 use Rattle.flat_model.specs.declared.classes.InstrClass.{InstrClass}

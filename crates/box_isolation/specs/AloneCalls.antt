@@ -1,5 +1,5 @@
 -- The lone machine's calls: those that its threads post and collect, and those that its server takes and answers.
--- Of the flat machine it takes the words of one thread alone.
+-- Of the flat machine it takes the words of one thread and data types alone.
 use Rattle.std.specs.Prelude.{ℕ, ◌+◌, ◌-◌, Bool, true, false, ◌&&◌, not, nat_eq, Option, Some, None, List, [], ◌∷◌, ◌++◌, if◌then◌else◌, filter, slice_index, slice_set}
 use Rattle.std.specs.List.{list_any}
 use Rattle.flat_model.specs.declared.events.Mode.TheVariants as mode

@@ -1,5 +1,5 @@
 -- The lone machine's interrupt lines.
--- Of the flat machine it takes the words of one thread alone.
+-- Of the flat machine it takes the words of one thread and data types alone.
 use Rattle.std.specs.Prelude.{ℕ, Bool, true, false, ◌&&◌, nat_eq, nat_lt, is_none, Option, Some, None, List, [], ◌∷◌, if◌then◌else◌, slice_set}
 use Rattle.std.specs.List.{list_any}
 use Rattle.flat_model.specs.declared.events.Reply.TheVariants as reply

@@ -1,5 +1,6 @@
 -- The lone machine's accesses, pages and registers.
--- Of the flat machine it takes the words of one thread, and what an access needs: alignment, items and own pages.
+-- Of the flat machine it takes the words of one thread, what an access needs (alignment, items and own pages), the bytes of
+-- a word, and data types.
 use Rattle.std.specs.Prelude.{ℕ, zero, suc, ◌+◌, ◌-◌, ◌*◌, ◌/◌, ◌%◌, Bool, true, false, ◌&&◌, ◌||◌, nat_eq, nat_le, nat_lt, Option, Some, None, List, [], ◌∷◌, ◌++◌, take, if◌then◌else◌, slice_set}
 use Rattle.std.specs.List.{flat_map}
 use Rattle.std.specs.Option.{option_map_or}
@@ -119,7 +120,7 @@ alone_free k th (Some frame) =
     if flag_at k.pages frame then alone_done (record k { pages = slice_set k.pages frame false }) th
     else alone_refused k th 8
 
--- a word into a register, or not allowed
+-- a word into a register, or not allowed; a gateway that reads always supplies a word, so none is never reached
 abbrev pub alone_word : Kept → ThreadState → ℕ → Option ℕ → Left
 alone_word k th r None = alone_refused k th 9
 alone_word k th r (Some value) = alone_value k th r value

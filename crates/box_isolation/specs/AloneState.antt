@@ -1,5 +1,6 @@
 -- The lone machine's state: a box by itself. It has no other box, no owners of pages and no calls of others.
--- Of the flat machine it takes the words of one thread alone, and no step, no run and no memory of others.
+-- Of the flat machine it takes the words of one thread, bytes and data types alone, and no step, no run and no memory of
+-- others.
 use Rattle.std.specs.Prelude.{ℕ, Bool, false, nat_eq, unwrap_or, Option, List, [], ◌∷◌, if◌then◌else◌, slice_get}
 use Rattle.std.specs.List.{list_any}
 use Rattle.flat_model.specs.declared.events.Flaw.{Flaw}

@@ -84,7 +84,7 @@ bounded-steps budget th = by_tests (is_stopped th.mode) (nat_le budget th.steps)
     by_tests false true = refl
     by_tests false false = refl
 
-bounded-calls : (budget : ℕ) (th : ThreadState) → (bounded budget th).count ≡ th.count
+pub bounded-calls : (budget : ℕ) (th : ThreadState) → (bounded budget th).count ≡ th.count
 bounded-calls budget th = by_tests (is_stopped th.mode) (nat_le budget th.steps)
   where
     by_tests : (stopped spent : Bool) → (cond stopped th (cond spent (record th { mode = mode.Spent }) th)).count ≡ th.count

@@ -1,35 +1,24 @@
 -- What a step leaves of the threads: how many there are, and how many steps they may still take.
-use Rattle.std.proofs.Common.{◌≡◌, ℕ, zero, suc, ◌+◌, ◌<◌, ◌≤◌, ◌⊎◌, Bool, true, false, Option, Some, None, List, [], ◌∷◌, ◌++◌, map, replicate, refl, sym, ap, ◌∙◌, subst, arith, length, inl, inr}
+use Rattle.std.proofs.Common.{◌≡◌, ℕ, zero, suc, ◌+◌, ◌<◌, ◌≤◌, ◌⊎◌, Bool, true, false, Some, None, List, [], ◌∷◌, ◌++◌, map, replicate, refl, sym, ap, ◌∙◌, subst, arith, length, inl, inr}
 use Rattle.std.specs.List.{slice_get, slice_set}
 use Rattle.std.proofs.lemmas.Option.{slice_get-map}
 use Rattle.std.specs.Option.{option_map}
 use Rattle.addr_base.specs.declared.identity.BoxId.{BoxId}
-use Rattle.addr_base.specs.declared.identity.ThreadId.{ThreadId}
-use Rattle.addr_base.specs.declared.identity.Ticket.{Ticket}
-use Rattle.flat_model.specs.declared.events.Choice.{Choice}
-use Rattle.flat_model.specs.declared.events.Choice.TheVariants as choice
-use Rattle.flat_model.specs.declared.events.Reply.{Reply}
 use Rattle.flat_model.specs.declared.parts.BoxPart.{BoxPart}
 use Rattle.flat_model.specs.declared.parts.Config.{Config}
 use Rattle.flat_model.specs.declared.parts.ThreadPart.{ThreadPart}
 use Rattle.flat_model.specs.declared.states.Flat.{Flat}
 use Rattle.flat_model.specs.declared.states.ThreadState.{ThreadState}
 use Rattle.flat_model.specs.Sound.{IsSound, IsThread, homes_from}
-use Rattle.flat_model.specs.Actors.{Actor, IsActor, actor_of, who_acts}
-use Rattle.flat_model.specs.CallRows.{server_row}
-use Rattle.flat_model.specs.Next.{holds_next, next_of_actor}
+use Rattle.flat_model.specs.Actors.{Actor, IsActor}
 use Rattle.flat_model.specs.Outcome.{Outcome}
-use Rattle.flat_model.specs.Step.{fitting_step, serve_by, settled, step, turn_by}
-use Rattle.flat_model.specs.Stepping.{AllCanStep, CanStep, IsWithin, KeepsBudgets}
+use Rattle.flat_model.specs.Step.{settled}
+use Rattle.flat_model.specs.Stepping.{CanStep, IsWithin, KeepsBudgets}
 use Rattle.flat_model.specs.StepsLeft.{steps_left, steps_left_of}
-use Rattle.flat_model.specs.Thread.{counted, has_ended}
-use Rattle.flat_model.specs.ThreadEvents.{opening_thread}
-use Rattle.flat_model.specs.Turn.{row_of, within_budget}
-use Rattle.flat_model.specs.Want.{fits}
-use Rattle.flat_model.proofs.ActorLemmas.{actor-is}
-use Rattle.flat_model.proofs.Budgets.{CountsOne, has_steps, serve-counts, turn-counts}
+use Rattle.flat_model.specs.Thread.{has_ended}
+use Rattle.flat_model.specs.Turn.{within_budget}
+use Rattle.flat_model.proofs.Budgets.{CountsOne, has_steps}
 use Rattle.flat_model.proofs.Elements.{each-get, slice_get_some}
-use Rattle.flat_model.proofs.StepCases.{step-fits, step-unfit}
 
 -- an element after a change is an old one or the new one
 pub get-slice_set : {A : Type 0} (xs : List A) (t : ℕ) (v : A) (i : ℕ) (x : A) →
@@ -111,58 +100,10 @@ module _ (cfg : Config) (sound : IsSound cfg) where
       let small = budget-small t thread at in
       record { steps = omega (arith, left.steps); calls = left.calls }
 
-  can_step-settled : (f : Flat) (t : ℕ) (a : Actor) (out : Outcome) → IsActor cfg f t a →
-      CountsOne a.thread (within_budget a.program.steps out).thread → AllCanStep f →
-      AllCanStep (settled f t (within_budget a.program.steps out)).0
-  can_step-settled f t a out it one all i x at =
-      elim (get-slice_set f.threads t (within_budget a.program.steps out).thread i x at) [
-        | inl old ↦ all i x old
-        | inr new ↦ subst CanStep (sym new.1)
-            (can-step t a.program (within_budget a.program.steps out).thread it.program
-            (λ live. has_steps a.program.steps a.thread out (all t a.thread it.thread it.live).calls one live))
-      ]
-
-  can_step-turn : (f : Flat) (t : ThreadId) (room : Bool) (a : Option Actor) → actor_of cfg f t.0 ≡ a → AllCanStep f →
-      AllCanStep (turn_by cfg f t room a).0
-  can_step-turn f t room None is all = all
-  can_step-turn f t room (Some a) is all =
-      let n = next_of_actor f.shared.lines a t.0 in
-      let granted = holds_next cfg.board a.program.home.0 a.part f.shared.owners n in
-      can_step-settled f t.0 a (row_of cfg (who_acts a t room) a.part f.shared (counted a.thread) granted n) (actor-is cfg f t.0 a is)
-      (turn-counts cfg (who_acts a t room) a.part a.program.steps f.shared a.thread granted n) all
-
-  can_step-serve : (f : Flat) (t : ThreadId) (ticket : Option Ticket) (a : Option Actor) → actor_of cfg f t.0 ≡ a → AllCanStep f →
-      AllCanStep (serve_by cfg f t ticket a).0
-  can_step-serve f t ticket None is all = all
-  can_step-serve f t ticket (Some a) is all =
-      can_step-settled f t.0 a (server_row cfg a.program.home.0 f.shared (counted a.thread) ticket) (actor-is cfg f t.0 a is)
-      (serve-counts cfg a.program.home.0 a.program.steps f.shared a.thread ticket) all
-
-  can_step-fitting : (f : Flat) (c : Choice) → AllCanStep f → AllCanStep (fitting_step cfg f c).0
-  can_step-fitting f (choice.Turn t room) all = can_step-turn f t room (actor_of cfg f t.0) refl all
-  can_step-fitting f (choice.Start t ticket) all = can_step-serve f t (Some ticket) (actor_of cfg f t.0) refl all
-  can_step-fitting f (choice.Idle t) all = can_step-serve f t None (actor_of cfg f t.0) refl all
-  can_step-fitting f (choice.Ring line by) all = all
-
-  -- a choice leaves threads that can step
-  pub can_step-step : (f : Flat) (c : Choice) → AllCanStep f → AllCanStep (step cfg f c).0
-  can_step-step f c all = by_fit (fits cfg f c) refl
-    where
-      by_fit : (b : Bool) → fits cfg f c ≡ b → AllCanStep (step cfg f c).0
-      by_fit true fit = subst (λ (p : Flat × Reply). AllCanStep p.0) (sym (step-fits cfg f c fit)) (can_step-fitting f c all)
-      by_fit false fit = subst (λ (p : Flat × Reply). AllCanStep p.0) (sym (step-unfit cfg f c fit)) all
-
 pub get-replicate : {A : Type 0} (n : ℕ) (v : A) (i : ℕ) (x : A) → slice_get (replicate n v) i ≡ Some x → x ≡ v
 get-replicate zero v i x at = absurd (let e : None ≡ Some x = at in cc)
 get-replicate (suc n) v zero x at = let same : x ≡ v = cc in same
 get-replicate (suc n) v (suc i) x at = get-replicate n v i x at
-
--- threads can step at the start
-pub can_step-opening : (cfg : Config) (f : Flat) → f.threads ≡ replicate (length cfg.threads) opening_thread → AllCanStep f
-can_step-opening cfg f fresh t th at =
-    let is : th ≡ opening_thread =
-    get-replicate (length cfg.threads) opening_thread t th (subst (λ xs. slice_get xs t ≡ Some th) fresh at) in
-    subst CanStep (sym is) (λ live. record { steps = omega arith; calls = omega arith })
 
 get-append : {A : Type 0} (xs ys : List A) (i : ℕ) (x : A) → slice_get (xs ++ ys) i ≡ Some x →
     (slice_get xs i ≡ Some x) ⊎ ((j : ℕ) × (slice_get ys j ≡ Some x))

@@ -4,6 +4,7 @@ pub mod Agreement
 pub mod Blocks
 pub mod BoardFacts
 pub mod Budgets
+pub mod CellSteps
 pub mod Copies
 pub mod Covers
 pub mod Deciding
@@ -11,11 +12,16 @@ pub mod Elements
 pub mod Exponents
 pub mod Fields
 pub mod Flushing
+pub mod GoingOn
 pub mod Granted
+pub mod FreeFrames
+pub mod GateLemmas
 pub mod Greatness
 pub mod HeldBytes
+pub mod Homes
 pub mod KeptSteps
 pub mod LegalLogs
+pub mod MadeCalls
 pub mod NamedChoices
 pub mod NamedLogs
 pub mod NamedReplies
@@ -33,7 +39,6 @@ pub mod RunWords
 pub mod SoundRun
 pub mod StepCases
 pub mod Suited
-pub mod TodayLemmas
 pub mod TraceLemmas
 pub mod Turning
 pub mod WantLemmas

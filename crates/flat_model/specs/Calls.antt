@@ -78,6 +78,10 @@ call_with ticket (Some call) = if same_ticket ticket call.ticket then Some call 
 abbrev pub next_call : Ticket → ℕ → List Call → Option Call
 next_call ticket b calls = call_with ticket (oldest_posted_by ticket.thread.0 b calls)
 
+-- how many of the calls are of the thread with this number
+abbrev pub calls_of : ℕ → List Call → ℕ
+calls_of t calls = count_by (λ call. nat_eq call.ticket.thread.0 t) calls
+
 -- the calls after the ticket's result was collected
 abbrev pub with_collected : Ticket → List Call → List Call
 with_collected ticket calls = with_state ticket state.Collected calls

@@ -3,10 +3,12 @@ pub use Rattle.addr_base.specs.Range
 pub use Rattle.addr_base.specs.Rights
 pub mod Access
 pub mod AccessRows
+pub mod Acting
 pub mod Actors
 pub mod BoardRules
 pub mod CallRows
 pub mod Calls
+pub mod CallTable
 pub mod Cells
 pub mod Circle
 pub mod Classes
@@ -18,6 +20,7 @@ pub mod Greatest
 pub mod Interrupts
 pub mod Items
 pub mod Kernel
+pub mod KernelCalls
 pub mod Legal
 pub mod LineRows
 pub mod Local
@@ -43,7 +46,6 @@ pub mod StepsLeft
 pub mod Text
 pub mod Thread
 pub mod ThreadEvents
-pub mod Today
 pub mod Trace
 pub mod Turn
 pub mod UnitRun

@@ -1,6 +1,5 @@
 ghost use Rattle.std.specs.Prelude.{◌≡◌};
 ghost use Rattle.flat_model.specs.Classes as spec;
-ghost use Rattle.flat_model.specs.Today.{runs_call};
 
 use crate::instructions::Instr;
 use addr_base::Kind;
@@ -134,28 +133,6 @@ impl Instr {
             Instr::RpcReturn(s) => InstrClass::Kernel(KernelCall::RpcReturn(s)),
             Instr::RpcResult(d, s) => InstrClass::Kernel(KernelCall::RpcResult(d, s)),
             Instr::Halt => InstrClass::Local(LocalInstr::Halt),
-        }
-    }
-}
-
-impl KernelCall {
-    /// Whether the machine runs it: no kernel call runs yet.
-    pub fn runs_today(self) -> bool
-        ensures { result ≡ runs_call self }
-    {
-        match self {
-            KernelCall::PagesAlloc(..)
-            | KernelCall::PageFree(_)
-            | KernelCall::IrqOn(_)
-            | KernelCall::IrqOff(_)
-            | KernelCall::IrqReturn
-            | KernelCall::GwRead(..)
-            | KernelCall::GwWrite(..)
-            | KernelCall::RpcCall(..)
-            | KernelCall::RpcSync(..)
-            | KernelCall::RpcTake
-            | KernelCall::RpcReturn(_)
-            | KernelCall::RpcResult(..) => false,
         }
     }
 }

@@ -3,22 +3,22 @@ ghost use Rattle.flat_model.specs.Evaluator.{flat_of};
 ghost use Rattle.flat_model.specs.Run.{opening_state};
 ghost use Rattle.flat_model.specs.Sound.{IsSound};
 ghost use Rattle.flat_model.specs.Step.{step};
-ghost use Rattle.flat_model.specs.Stepping.{AllCanStep};
-ghost use Rattle.flat_model.specs.Today.{RunsToday};
+ghost use Rattle.flat_model.specs.Stepping.{CanGoOn};
 
 use crate::events::{Choice, Reply};
+use crate::fitting::fits;
 use crate::lists::Items;
 use crate::opening::opening_threads;
 use crate::parts::Config;
 use crate::plain::PlainKernel;
 use crate::states::ThreadState;
-use crate::step::{is_owned_line, turn_at};
+use crate::step::{serve_at, turn_at};
 use addr_base::OutOfMemory;
 use std::alloc::Global;
 use std::marker::Model;
 
 /// A state of the flat machine, which contracts see with the configuration that it is of. Each thread that may run
-/// has taken fewer steps than can be counted.
+/// has steps left, its calls are counted, and there is room for those that may come.
 #[derive(Drop)]
 pub struct FlatState {
     kernel: PlainKernel,
@@ -27,18 +27,19 @@ pub struct FlatState {
 
 impl Model for FlatState {
     ghost use Rattle.flat_model.specs.Evaluator.{EvaluatorState, flat_of};
-    ghost use Rattle.flat_model.specs.Stepping.{AllCanStep};
+    ghost use Rattle.flat_model.specs.Stepping.{CanGoOn};
 
     ghost Value = { EvaluatorState };
 
     ghost view = { λ s. record { config = s.kernel.config; flat = flat_of s.kernel s.threads } };
 
-    ghost invariant = { λ s. AllCanStep (flat_of s.kernel s.threads) };
+    ghost invariant = { λ s. CanGoOn s.kernel.config (flat_of s.kernel s.threads) };
 }
 
 impl FlatState {
     /// The state at the start.
     pub fn opening(alloc: Global, cfg: &Config) -> Result<FlatState, OutOfMemory>
+        requires { IsSound cfg.now }
         ensures { IfOk result (λ state.
             state ≡ record { config = cfg.now; flat = opening_state cfg.now }) }
     {
@@ -48,7 +49,7 @@ impl FlatState {
     }
 }
 
-// What a choice does.
+// What a choice does: one that does not fit changes nothing.
 fn flat_event(
     cfg: &Config,
     kernel: &mut PlainKernel,
@@ -56,29 +57,22 @@ fn flat_event(
     choice: Choice,
 ) -> Reply
     requires config { kernel.old.config ≡ cfg.now }
-    requires today { RunsToday cfg.now }
-    requires steps { AllCanStep (flat_of kernel.old threads.old) }
+    requires sound { IsSound cfg.now }
+    requires kept { CanGoOn kernel.old.config (flat_of kernel.old threads.old) }
     ensures exact { step cfg.now (flat_of kernel.old threads.old) choice
         ≡ (flat_of kernel.new threads.new, result) }
     ensures config { kernel.new.config ≡ kernel.old.config }
 {
+    if !fits(cfg, kernel, threads, choice) {
+        return Reply::Ended;
+    }
     match choice {
-        Choice::Turn { t, room } => {
-            if room {
-                turn_at(cfg, kernel, threads, t, true)
-            } else {
-                Reply::Ended
-            }
-        }
-        Choice::Start { t: _, ticket: _ } => Reply::Ended,
-        Choice::Idle { t: _ } => Reply::Ended,
+        Choice::Turn { t, room } => turn_at(cfg, kernel, threads, t, room),
+        Choice::Start { t, ticket } => serve_at(cfg, kernel, threads, t, Some(ticket)),
+        Choice::Idle { t } => serve_at(cfg, kernel, threads, t, None),
         Choice::Ring { line, by: _ } => {
-            if is_owned_line(cfg, line) {
-                kernel.latch(line);
-                Reply::Done
-            } else {
-                Reply::Ended
-            }
+            kernel.latch(line);
+            Reply::Done
         }
     }
 }
@@ -87,7 +81,6 @@ fn flat_event(
 pub fn flat_step(state: &mut FlatState, cfg: &Config, choice: &Choice) -> Reply
     requires of { state.old.config ≡ cfg.now }
     requires sound { IsSound cfg.now }
-    requires today { RunsToday cfg.now }
     ensures exact { step cfg.now state.old.flat choice.now ≡ (state.new.flat, result) }
     ensures config { state.new.config ≡ state.old.config }
 {

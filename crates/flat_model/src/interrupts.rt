@@ -44,8 +44,8 @@ fn lowest_deliverable(lines: &Lines, irqs: &[IrqPart]) -> Option<IrqPart>
     }
 }
 
-// What the box saved at a delivery, while it is in its handler.
-fn saved_context(lines: &Lines, home: BoxId) -> Option<Context>
+/// What the box saved at a delivery, while it is in its handler.
+pub fn saved_context(lines: &Lines, home: BoxId) -> Option<Context>
     ensures { result ≡ spec.saved_context lines.now home.0 }
 {
     lines
@@ -54,6 +54,13 @@ fn saved_context(lines: &Lines, home: BoxId) -> Option<Context>
         .get(home.0 as usize)
         .copied()
         .unwrap_or(None)
+}
+
+/// Whether the line is one of these.
+pub fn has_line(line: u32, irqs: &[IrqPart]) -> bool
+    ensures { result ≡ spec.has_line line irqs.now }
+{
+    irqs.iter().any(|irq| irq.line.0 as u32 == line)
 }
 
 /// The lowest line that can be delivered to the box: none while it is in its handler.
@@ -81,5 +88,19 @@ impl Lines {
     {
         self.latched.put(line.0 as usize, false);
         self.saved.put(home.0 as usize, Some(context));
+    }
+
+    /// Enables or disables a line.
+    pub fn enable(&mut self, line: u32, on: bool)
+        ensures { self.new ≡ spec.with_enabled self.old line on }
+    {
+        self.enabled.put(line as usize, on);
+    }
+
+    /// Ends the handler of a box.
+    pub fn finish(&mut self, home: BoxId)
+        ensures { self.new ≡ spec.with_returned self.old home.0 }
+    {
+        self.saved.put(home.0 as usize, None);
     }
 }

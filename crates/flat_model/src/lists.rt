@@ -72,6 +72,14 @@ impl<T: Copy> Items<T> {
         Ok(Items { items })
     }
 
+    /// The same list again.
+    pub fn copied(&self, alloc: Global) -> Result<Items<T>, OutOfMemory>
+        ensures { IfOk result (λ copy. copy ≡ self.now) }
+    {
+        let items = Vec::from_slice(alloc, self.as_slice())?;
+        Ok(Items { items })
+    }
+
     /// The element at `index`.
     pub fn at(&self, index: usize) -> T
         requires { index < length self.now }

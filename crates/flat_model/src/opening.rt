@@ -7,7 +7,7 @@ use crate::banks::put_word;
 use crate::boards::{Board, HeapPart};
 use crate::lists::Items;
 use crate::parts::Config;
-use crate::states::{Lines, Memory, Shared, ThreadState};
+use crate::states::{Lines, Memory, ThreadState};
 use addr_base::OutOfMemory;
 use std::alloc::Global;
 
@@ -87,25 +87,6 @@ pub fn opening_lines(alloc: Global, boxes: usize) -> Result<Lines, OutOfMemory>
         latched,
         enabled,
         saved,
-    })
-}
-
-/// What the threads share as it is at the start.
-#[tactic(auto, unfolding(crate::specs::Run::opening_state))]
-pub(crate) fn opening_shared(alloc: Global, cfg: &Config) -> Result<Shared, OutOfMemory>
-    ensures { IfOk result (λ shared. shared ≡ (spec.opening_state cfg.now).shared) }
-{
-    let memory = opening_memory(alloc, &cfg.board)?;
-    let owners = Items::filled(alloc, None, page_count(&cfg.board.heap) as usize)?;
-    let calls = Items::from_vec(Vec::new(alloc));
-    let serving = Items::filled(alloc, None, cfg.boxes.len())?;
-    let lines = opening_lines(alloc, cfg.boxes.len())?;
-    Ok(Shared {
-        memory,
-        owners,
-        calls,
-        serving,
-        lines,
     })
 }
 

@@ -57,13 +57,11 @@ pub enum Key {
     Rings,
 }
 
-/// Why an input is refused (docs/INPUT.md). `NotYet` is answered by the command `script` alone, for
-/// what the machine does not run yet.
+/// Why an input is refused (docs/INPUT.md).
 #[derive(Clone, Copy, PartialEq, Eq, Debug)]
 pub enum Refused {
     TooLong,
     NotToml,
-    NotYet,
     UnknownKey { spot: Spot },
     MissingKey { spot: Spot, key: Key },
     BadValue { spot: Spot, key: Key },

@@ -1,9 +1,9 @@
-ghost use Rattle.std.specs.Prelude.{◌≡◌, ◌+◌, ◌^◌, ◌<◌, None, Some};
+ghost use Rattle.std.specs.Prelude.{◌≡◌, ◌+◌, ◌^◌, ◌<◌, None, Some, take};
 ghost use Rattle.flat_model.specs.declared.events.Reply.TheVariants as reply;
 ghost use Rattle.flat_model.specs.Thread as spec;
 ghost use Rattle.flat_model.specs.ThreadEvents as events;
 
-use crate::events::{Flaw, Mode, Reply};
+use crate::events::{Flaw, Mode, Reply, Started};
 use crate::states::{Awaited, Context, ThreadState};
 
 impl Mode {
@@ -162,5 +162,87 @@ impl ThreadState {
     {
         self.set_register(0, line as u32);
         self.pc = handler;
+    }
+
+    /// Puts the thread back to where it was when a line was delivered.
+    pub fn resume(&mut self, context: Context)
+        ensures { self.new ≡ events.resumed self.old context }
+    {
+        let regs = context.regs;
+        self.pc = context.pc;
+        self.regs = regs;
+    }
+
+    /// Answers a kernel call that was done.
+    pub fn finish_call(&mut self) -> Reply
+        ensures thread { self.new ≡ spec.with_status self.old 0 }
+        ensures reply { result ≡ reply.Done }
+    {
+        self.give_status(0);
+        Reply::Done
+    }
+
+    /// Answers a kernel call with a status.
+    pub fn refuse_call(&mut self, status: u8) -> Reply
+        ensures thread { self.new ≡ spec.with_status self.old status }
+        ensures reply { result ≡ reply.Status status }
+    {
+        self.give_status(status);
+        Reply::Status(status)
+    }
+
+    /// Answers a kernel call with a value.
+    pub fn answer_call(&mut self, r: u8, value: u32) -> Reply
+        ensures thread { self.new ≡ spec.with_result self.old r value }
+        ensures reply { result ≡ reply.Value value }
+    {
+        self.give_result(r, value);
+        Reply::Value(value)
+    }
+
+    /// The four words that a call of the thread hands on.
+    pub fn arguments(&self) -> [u32; 4]
+        ensures { result ≡ take 4 self.now.regs }
+    {
+        [self.regs[0], self.regs[1], self.regs[2], self.regs[3]]
+    }
+
+    /// Counts a call that the thread posted, and puts its number into a register.
+    pub fn post(&mut self, r: u8) -> Reply
+        requires { self.old.count + 1 < 2 ^ 32 }
+        ensures thread { self.new ≡ events.posted self.old r }
+        ensures reply { result ≡ reply.Posted (self.old.count + 1) }
+    {
+        let seq = self.count + 1;
+        self.give_result(r, seq);
+        self.count = seq;
+        Reply::Posted(seq)
+    }
+
+    /// Counts a call that the thread posted, and waits for its result with so many looks.
+    pub fn post_and_wait(&mut self, looks: u32) -> Reply
+        requires { self.old.count + 1 < 2 ^ 32 }
+        ensures thread { self.new ≡ events.posted_and_waiting self.old looks }
+        ensures reply { result ≡ reply.Posted (self.old.count + 1) }
+    {
+        let seq = self.count + 1;
+        self.look_on(seq, looks);
+        self.mode = Mode::Waiting;
+        self.count = seq;
+        Reply::Posted(seq)
+    }
+
+    /// Gives a server the call that it started, in all registers but r6.
+    pub fn begin(&mut self, started: Started)
+        ensures { self.new ≡ events.begun self.old started }
+    {
+        self.set_register(0, started.args[0]);
+        self.set_register(1, started.args[1]);
+        self.set_register(2, started.args[2]);
+        self.set_register(3, started.args[3]);
+        self.set_register(4, started.function);
+        self.set_register(5, started.caller.0 as u32);
+        self.set_register(7, 0);
+        self.move_on();
     }
 }

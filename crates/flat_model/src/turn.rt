@@ -1,11 +1,11 @@
-ghost use Rattle.std.specs.Prelude.{◌≡◌, ◌+◌, ◌^◌, ◌<◌, ◌≤◌, true};
+ghost use Rattle.std.specs.Prelude.{◌≡◌, ◌≤◌, None, Some, true};
 ghost use Rattle.flat_model.specs.AccessRows as access_words;
+ghost use Rattle.flat_model.specs.Acting.{CanAct, CanPost, IsDue, IsPartOf, is_free_server};
 ghost use Rattle.flat_model.specs.CallRows as call_words;
 ghost use Rattle.flat_model.specs.Interrupts.{due_interrupt};
 ghost use Rattle.flat_model.specs.Kernel.{outcome_of};
-ghost use Rattle.flat_model.specs.LineRows as line_words;
 ghost use Rattle.flat_model.specs.Next.{IsSized};
-ghost use Rattle.flat_model.specs.Today.{runs_next};
+ghost use Rattle.flat_model.specs.Thread.{counted};
 ghost use Rattle.flat_model.specs.Turn as spec;
 
 use crate::accesses::Access;
@@ -17,7 +17,7 @@ use crate::local::local_row;
 use crate::next::Next;
 use crate::parts::IrqPart;
 use crate::states::{Awaited, ThreadState};
-use addr_base::{BoxId, Kind, Ticket};
+use addr_base::{Kind, Ticket};
 
 // The bytes at the address go into the register.
 fn load_row<K: Kernel>(kernel: &K, thread: &mut ThreadState, access: Access) -> Reply
@@ -94,22 +94,6 @@ fn access_row<K: Kernel>(
     }
 }
 
-// The delivery of an interrupt: its latch is cleared, place and registers are saved, the handler is next.
-fn delivery_row<K: Kernel>(
-    kernel: &mut K,
-    home: BoxId,
-    thread: &mut ThreadState,
-    irq: IrqPart,
-) -> Reply
-    ensures exact { line_words.delivery_row home.0 (K.state kernel.old).shared thread.old irq
-        ≡ outcome_of (K.state kernel.new) thread.new result }
-    ensures config { (K.state kernel.new).config ≡ (K.state kernel.old).config }
-{
-    kernel.deliver(home, irq.line, thread.context());
-    thread.interrupt(irq.line.0, irq.handler);
-    Reply::Irq(irq.line)
-}
-
 // One look less for a call's result: the last one times out.
 fn no_result_row(thread: &mut ThreadState, awaited: Awaited) -> Reply
     ensures { call_words.no_result_row thread.old awaited ≡ (thread.new, result) }
@@ -163,6 +147,7 @@ fn waiting_row<K: Kernel>(kernel: &mut K, who: Who, thread: &mut ThreadState) ->
 impl Actor<'_> {
     /// The interrupt that is due to the actor's thread, where it is ready.
     pub fn due_interrupt<K: Kernel>(&self, kernel: &K) -> Option<IrqPart>
+        requires { IsPartOf (K.state kernel.now).config self.now.who.home.0 self.now.part.now }
         ensures { result ≡ due_interrupt
             (K.state kernel.now).shared.lines self.now.part.now self.now.who.home.0
             self.now.who.thread.0 }
@@ -171,6 +156,37 @@ impl Actor<'_> {
             kernel.deliverable(self.part, self.who.home)
         } else {
             None
+        }
+    }
+
+    // What a kernel call does. Each is listed, so that none is forgotten when one comes.
+    fn kernel_row<K: Kernel>(
+        self,
+        kernel: &mut K,
+        thread: &mut ThreadState,
+        call: KernelCall,
+    ) -> Reply
+        requires part { IsPartOf (K.state kernel.old).config
+            self.who.home.0 self.part.now }
+        requires posts { CanPost (K.state kernel.old) self.who.thread.0 thread.old.count }
+        ensures exact { spec.kernel_row (K.state kernel.old).config self.entry.who
+            self.entry.part.now (K.state kernel.old).shared thread.old call
+            ≡ outcome_of (K.state kernel.new) thread.new result }
+        ensures config { (K.state kernel.new).config ≡ (K.state kernel.old).config }
+    {
+        match call {
+            KernelCall::PagesAlloc(n, table) => self.pages_alloc_row(kernel, thread, n, table),
+            KernelCall::PageFree(origin) => self.page_free_row(kernel, thread, origin),
+            KernelCall::IrqOn(line) => self.irq_enable_row(kernel, thread, line, true),
+            KernelCall::IrqOff(line) => self.irq_enable_row(kernel, thread, line, false),
+            KernelCall::IrqReturn => self.irq_return_row(kernel, thread),
+            KernelCall::GwRead(r, n) => self.gw_read_row(kernel, thread, r, n),
+            KernelCall::GwWrite(r, n) => self.gw_write_row(kernel, thread, r, n),
+            KernelCall::RpcCall(r, n) => self.rpc_call_row(kernel, thread, r, n),
+            KernelCall::RpcSync(n, looks) => self.rpc_sync_row(kernel, thread, n, looks),
+            KernelCall::RpcTake => self.rpc_take_row(kernel, thread),
+            KernelCall::RpcReturn(r) => self.rpc_return_row(kernel, thread, r),
+            KernelCall::RpcResult(r, seq) => self.rpc_result_row(kernel, thread, r, seq),
         }
     }
 
@@ -183,7 +199,11 @@ impl Actor<'_> {
         granted: bool,
     ) -> Reply
         requires sized { IsSized next }
-        requires today { runs_next next ≡ true }
+        requires part { IsPartOf (K.state kernel.old).config
+            self.who.home.0 self.part.now }
+        requires posts { CanPost (K.state kernel.old) self.who.thread.0 thread.old.count }
+        requires due { IsDue (K.state kernel.old).shared.lines
+            self.part.now self.who.home.0 next }
         ensures exact { spec.row_of (K.state kernel.old).config self.entry.who self.entry.part.now
             (K.state kernel.old).shared thread.old granted next
             ≡ outcome_of (K.state kernel.new) thread.new result }
@@ -191,25 +211,11 @@ impl Actor<'_> {
     {
         match next {
             Next::Look => waiting_row(kernel, self.who, thread),
-            Next::Deliver(irq) => delivery_row(kernel, self.who.home, thread, irq),
+            Next::Deliver(irq) => self.delivery_row(kernel, thread, irq),
             Next::Local(instr) => local_row(thread, self.who.home, instr),
             Next::Access(access) => access_row(kernel, thread, access, granted),
             Next::Unaligned(at) => thread.fault(Flaw::Unaligned, at),
-            // Each is listed, so that none is forgotten when its part of the machine comes.
-            Next::Kernel(call) => match call {
-                KernelCall::PagesAlloc(_, _) => unreachable!(),
-                KernelCall::PageFree(_) => unreachable!(),
-                KernelCall::IrqOn(_) => unreachable!(),
-                KernelCall::IrqOff(_) => unreachable!(),
-                KernelCall::IrqReturn => unreachable!(),
-                KernelCall::GwRead(_, _) => unreachable!(),
-                KernelCall::GwWrite(_, _) => unreachable!(),
-                KernelCall::RpcCall(_, _) => unreachable!(),
-                KernelCall::RpcSync(_, _) => unreachable!(),
-                KernelCall::RpcTake => unreachable!(),
-                KernelCall::RpcReturn(_) => unreachable!(),
-                KernelCall::RpcResult(_, _) => unreachable!(),
-            },
+            Next::Kernel(call) => self.kernel_row(kernel, thread, call),
             Next::Nowhere => {
                 let place = thread.pc;
                 thread.fault(Flaw::Place, place)
@@ -218,7 +224,7 @@ impl Actor<'_> {
     }
 
     /// A turn of the actor's thread that comes to this: its step is counted, and after its last one it is spent. The
-    /// access that it decides, if it decides one, was granted or denied.
+    /// access that it decides, if it decides one, was granted or denied; a delivery is of the interrupt that is due.
     pub fn turn<K: Kernel>(
         self,
         kernel: &mut K,
@@ -227,8 +233,10 @@ impl Actor<'_> {
         granted: bool,
     ) -> Reply
         requires sized { IsSized next }
-        requires today { runs_next next ≡ true }
-        requires steps { thread.old.steps + 1 < 2 ^ 32 }
+        requires acts { CanAct (K.state kernel.old)
+            self.who self.part.now thread.old }
+        requires due { IsDue (K.state kernel.old).shared.lines
+            self.part.now self.who.home.0 next }
         ensures exact { spec.turn_row (K.state kernel.old).config self.entry.who
             self.entry.part.now self.entry.program.now.steps
             (K.state kernel.old).shared thread.old granted next
@@ -237,6 +245,52 @@ impl Actor<'_> {
     {
         thread.count_step();
         let reply = self.row(kernel, thread, next, granted);
+        thread.bound(self.program.steps);
+        reply
+    }
+
+    // What a server's event does whose step is counted.
+    fn server_row<K: Kernel>(
+        self,
+        kernel: &mut K,
+        thread: &mut ThreadState,
+        ticket: Option<Ticket>,
+    ) -> Reply
+        requires part { IsPartOf (K.state kernel.old).config
+            self.who.home.0 self.part.now }
+        requires free { call_words.served_ticket (K.state kernel.old).shared.serving
+            self.who.home.0 ≡ None }
+        ensures exact { call_words.server_row (K.state kernel.old).config self.entry.who.home.0
+            (K.state kernel.old).shared thread.old ticket
+            ≡ outcome_of (K.state kernel.new) thread.new result }
+        ensures config { (K.state kernel.new).config ≡ (K.state kernel.old).config }
+    {
+        match ticket {
+            Some(ticket) => self.start_row(kernel, thread, ticket),
+            None => thread.refuse_call(2),
+        }
+    }
+
+    /// An event of a server that serves no call: the start of a call, or an idle look. Its step is counted, and after its
+    /// last one it is spent.
+    pub fn serve<K: Kernel>(
+        self,
+        kernel: &mut K,
+        thread: &mut ThreadState,
+        ticket: Option<Ticket>,
+    ) -> Reply
+        requires acts { CanAct (K.state kernel.old)
+            self.who self.part.now thread.old }
+        requires free { is_free_server self.who self.part.now
+            (K.state kernel.old).shared ≡ true }
+        ensures exact { spec.within_budget self.entry.program.now.steps
+            (call_words.server_row (K.state kernel.old).config self.entry.who.home.0
+            (K.state kernel.old).shared (counted thread.old) ticket)
+            ≡ outcome_of (K.state kernel.new) thread.new result }
+        ensures config { (K.state kernel.new).config ≡ (K.state kernel.old).config }
+    {
+        thread.count_step();
+        let reply = self.server_row(kernel, thread, ticket);
         thread.bound(self.program.steps);
         reply
     }

@@ -47,17 +47,17 @@ board_is = record {
   heap = tt;
 }
 
-first_box : IsBox fixture.board (common_range fixture.board fixture.two_boxes.boxes) (fixture.part (97 ∷ []) 536870912 0 (fixture.grant ∷ []))
+first_box : IsBox fixture.board (common_range fixture.board fixture.two_boxes.boxes) (fixture.part (97 ∷ []) 536870912 0 (fixture.grant ∷ []) (fixture.irq ∷ []))
 first_box = record {
   name = refl;
   items = refl;
   grants = (record { tiled = record { enough = omega arith; base = refl; len = refl }; rights = inr (inl refl); placed = inl (omega arith, omega arith) }, tt);
   grants_apart = (tt, tt);
   few_grants = omega arith;
-  lines = tt;
+  lines = (omega arith, tt);
 }
 
-second_box : IsBox fixture.board (common_range fixture.board fixture.two_boxes.boxes) (fixture.part (98 ∷ []) 536871168 2 [])
+second_box : IsBox fixture.board (common_range fixture.board fixture.two_boxes.boxes) (fixture.part (98 ∷ []) 536871168 2 [] [])
 second_box = record {
   name = refl;
   items = refl;
@@ -80,7 +80,7 @@ threads_are = (
       some_step = omega arith;
       few_steps = omega arith;
       short = omega arith;
-      valid = ((omega arith, omega arith), ((omega arith, omega arith, omega arith), tt));
+      valid = ((omega arith, omega arith), ((omega arith, omega arith, omega arith), ((omega arith, omega arith), tt)));
     },
     (
       record {
@@ -118,9 +118,9 @@ sound = record {
   );
   room = omega arith;
   one_owner = omega arith;
-  lines_once = tt;
+  lines_once = (refl, tt);
   registers = tt;
-  gateways = tt;
+  gateways = (omega arith, tt);
   devices = tt;
   script = tt;
 }

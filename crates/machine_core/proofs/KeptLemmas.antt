@@ -1,117 +1,161 @@
--- What a turn leaves of what a state keeps.
+-- What an event leaves of what a state keeps, and how many items it has.
 use Rattle.std.proofs.Common.{◌≡◌, ℕ, ◌+◌, ◌-◌, ◌<◌, ◌≤◌, Bool, true, false, ◌&&◌, not, cond, Option, Some, None, List, [], ◌∷◌, ◌++◌, map, refl, sym, ap, ◌∙◌, subst, length, arith}
+use Rattle.std.specs.List.{slice_set}
 use Rattle.std.specs.Option.{option_map_or}
 use Rattle.std.proofs.lemmas.List.{length-append, length-map}
+use Rattle.std.proofs.lemmas.Option.{slice_get_within}
 use Rattle.addr_base.specs.declared.identity.BoxId.{BoxId}
+use Rattle.addr_base.specs.declared.identity.Line.{Line}
 use Rattle.addr_base.specs.declared.identity.ThreadId.{ThreadId}
 use Rattle.addr_base.specs.declared.pairs.Pair.{Pair}
 use Rattle.flat_model.specs.declared.events.Choice.{Choice}
 use Rattle.flat_model.specs.declared.events.Choice.TheVariants as choice
 use Rattle.flat_model.specs.declared.events.Logged.TheVariants as item
 use Rattle.flat_model.specs.declared.events.Reply.{Reply}
+use Rattle.flat_model.specs.declared.events.Reply.TheVariants as reply
 use Rattle.flat_model.specs.declared.events.UnitLine.{UnitLine}
 use Rattle.flat_model.specs.declared.next.Next.{Next}
 use Rattle.flat_model.specs.declared.parts.BoxPart.{BoxPart}
 use Rattle.flat_model.specs.declared.parts.Config.{Config}
+use Rattle.flat_model.specs.declared.parts.ThreadPart.{ThreadPart}
 use Rattle.flat_model.specs.declared.states.Flat.{Flat}
 use Rattle.flat_model.specs.declared.states.ThreadState.{ThreadState}
 use Rattle.flat_model.specs.Actors.{Actor, actor_of, who_acts}
 use Rattle.flat_model.specs.Next.{holds_next, is_page_turn, next_of_actor, touch_in}
 use Rattle.flat_model.specs.Plan.{plan_of}
-use Rattle.flat_model.specs.Step.{is_status, reply_to, step, turn_by}
-use Rattle.flat_model.specs.Stepping.{KeepsBudgets}
+use Rattle.flat_model.specs.Script.{choice_by_want, choice_of_thread}
+use Rattle.flat_model.specs.Step.{empties_slots, is_page_turn_by, is_status, reply_to, step, touch_by, touch_of, turn_by}
+use Rattle.flat_model.specs.Stepping.{CanGoOn}
 use Rattle.flat_model.specs.StepsLeft.{steps_left}
-use Rattle.flat_model.specs.Thread.{counted, has_ended}
-use Rattle.flat_model.specs.Today.{RunsToday}
+use Rattle.flat_model.specs.Thread.{has_ended}
 use Rattle.flat_model.specs.Trace.{World, event_items, world_after}
-use Rattle.flat_model.specs.Turn.{row_of, turn_row}
-use Rattle.flat_model.specs.UnitRun.{UnitState, access_lines, entered, flush_lines, lines_of_event, switch_lines, unit_lines}
+use Rattle.flat_model.specs.UnitRun.{UnitState, access_lines, entered, flush_lines, lines_of_actor, lines_of_event, switch_lines, unit_lines}
+use Rattle.flat_model.specs.Want.{fits, want_of, want_of_actor}
 use Rattle.flat_model.proofs.ActorLemmas.{actor-is}
-use Rattle.flat_model.proofs.Budgets.{turn-counts}
-use Rattle.flat_model.proofs.KeptSteps.{budgets-settled, left-one, steps_left-set}
+use Rattle.flat_model.proofs.Budgets.{CountsOne, serve-counts, turn-counts}
+use Rattle.flat_model.proofs.GoingOn.{goes-step}
+use Rattle.flat_model.proofs.KeptSteps.{left-one, steps_left-set}
 use Rattle.flat_model.proofs.NamedLogs.{length-state_after}
-use Rattle.flat_model.proofs.WantLemmas.{step-turn}
+use Rattle.flat_model.proofs.StepCases.{step-fits, step-unfit}
+use Rattle.machine_core.specs.declared.deeds.Deed.{Deed}
+use Rattle.machine_core.specs.declared.deeds.Deed.TheVariants as deed
+use Rattle.machine_core.specs.Deeds.{choice_by, deed_by_want, deed_row}
 use Rattle.machine_core.specs.Journal.{JournalState, noted}
-use Rattle.machine_core.specs.Kept.{IsKeptState}
+use Rattle.machine_core.specs.Kept.{HasCallers, IsKeptState}
 use Rattle.machine_core.specs.State.{ended_in, event_room}
-use Rattle.machine_core.proofs.TurnLemmas.{lines-idle, lines-live, reached-after}
+use Rattle.machine_core.proofs.CallerLemmas.{step-callers}
+use Rattle.machine_core.proofs.EventLemmas.{choice-by, reached-after}
+use Rattle.machine_core.proofs.ScriptLemmas.{script-fits}
+use Rattle.machine_core.proofs.TurnLemmas.{lines-idle, step-live}
 use Rattle.machine_core.proofs.UnitLemmas.{noted-append, switch-short, turn-short}
 
-flat-after : (cfg : Config) (w : World) (t : ThreadId) → (world_after cfg w (choice.Turn t true)).flat ≡ (step cfg w.flat (choice.Turn t true)).0
+pub flat-after : (cfg : Config) (w : World) (c : Choice) → (world_after cfg w c).flat ≡ (step cfg w.flat c).0
 unfolding world_after
-flat-after cfg w t = refl
+flat-after cfg w c = refl
 
-budgets-by : (cfg : Config) (f : Flat) (t : ThreadId) (a : Option Actor) → actor_of cfg f t.0 ≡ a → KeepsBudgets cfg f →
-    KeepsBudgets cfg (turn_by cfg f t true a).0
-budgets-by cfg f t None acting keeps = keeps
-budgets-by cfg f t (Some a) acting keeps =
-    let n = next_of_actor f.shared.lines a t.0 in
-    let granted = holds_next cfg.board a.program.home.0 a.part f.shared.owners n in
-    budgets-settled cfg f t.0 a (actor-is cfg f t.0 a acting) (row_of cfg (who_acts a t true) a.part f.shared (counted a.thread) granted n)
-    (turn-counts cfg (who_acts a t true) a.part a.program.steps f.shared a.thread granted n) keeps
-
--- after a turn the state is kept
-pub kept-after : (cfg : Config) (w : World) (t : ThreadId) → IsKeptState cfg w → IsKeptState cfg (world_after cfg w (choice.Turn t true))
-kept-after cfg w t kept = record {
+-- after an event the state is kept
+pub kept-after : (cfg : Config) (w : World) (c : Choice) → IsKeptState cfg w → IsKeptState cfg (world_after cfg w c)
+kept-after cfg w c kept = record {
   sound = kept.sound;
-  today = kept.today;
-  reached = reached-after cfg w (choice.Turn t true) kept.reached;
-  budgets = subst (KeepsBudgets cfg) (sym (flat-after cfg w t))
-      (subst (λ (p : Flat × Reply). KeepsBudgets cfg p.0) (sym (step-turn cfg w.flat t kept.today))
-      (budgets-by cfg w.flat t (actor_of cfg w.flat t.0) refl kept.budgets));
-  numbered = ap (λ (f : Flat). length f.threads) (flat-after cfg w t) ∙ length-state_after cfg w.flat (choice.Turn t true) ∙ kept.numbered;
+  reached = reached-after cfg w c kept.reached;
+  going = subst (CanGoOn cfg) (sym (flat-after cfg w c)) (goes-step cfg w.flat c kept.going);
+  callers = subst (λ (f : Flat). HasCallers cfg f.shared.calls) (sym (flat-after cfg w c)) (step-callers cfg w.flat c kept.callers);
+  numbered = ap (λ (f : Flat). length f.threads) (flat-after cfg w c) ∙ length-state_after cfg w.flat c ∙ kept.numbered;
 }
 
--- ---- what is left of the steps
+-- ---- an event of nobody
 
--- the turn of an actor takes one
-pub left-live : (cfg : Config) (f : Flat) (t : ThreadId) (a : Actor) → actor_of cfg f t.0 ≡ Some a → KeepsBudgets cfg f →
-    steps_left cfg.threads (turn_by cfg f t true (Some a)).0.threads + 1 ≤ steps_left cfg.threads f.threads
-left-live cfg f t a acting keeps =
-    let it = actor-is cfg f t.0 a acting in
-    let n = next_of_actor f.shared.lines a t.0 in
-    let granted = holds_next cfg.board a.program.home.0 a.part f.shared.owners n in
-    let v : ThreadState = (turn_row cfg (who_acts a t true) a.part a.program.steps f.shared a.thread granted n).thread in
-    let one = turn-counts cfg (who_acts a t true) a.part a.program.steps f.shared a.thread granted n in
-    let below = (keeps t.0 a.program a.thread it.program it.thread it.live).steps in
-    steps_left-set cfg.threads f.threads t.0 a.program a.thread v 1 it.program it.thread (left-one a.program a.thread v one it.live below)
+pub step-nobody : (cfg : Config) (f : Flat) (t : ThreadId) → actor_of cfg f t.0 ≡ None → step cfg f (choice.Turn t true) ≡ (f, reply.Ended)
+step-nobody cfg f t none = by_fit (fits cfg f (choice.Turn t true)) refl
+  where
+    by_fit : (b : Bool) → fits cfg f (choice.Turn t true) ≡ b → step cfg f (choice.Turn t true) ≡ (f, reply.Ended)
+    by_fit true fit = step-fits cfg f (choice.Turn t true) fit ∙ ap (turn_by cfg f t true) none
+    by_fit false fit = step-unfit cfg f (choice.Turn t true) fit
 
--- and no turn adds one
-pub left-by : (cfg : Config) (f : Flat) (t : ThreadId) (a : Option Actor) → actor_of cfg f t.0 ≡ a → KeepsBudgets cfg f →
-    steps_left cfg.threads (turn_by cfg f t true a).0.threads ≤ steps_left cfg.threads f.threads
-left-by cfg f t None acting keeps = omega arith
-left-by cfg f t (Some a) acting keeps = let less = left-live cfg f t a acting keeps in omega (arith, less)
+-- the script's word for a thread that nobody is
+pub choice-nobody : (cfg : Config) (f : Flat) (t : ThreadId) → actor_of cfg f t.0 ≡ None → choice_of_thread cfg f t ≡ choice.Turn t true
+choice-nobody cfg f t none = ap (λ a. choice_by_want cfg f t (want_of_actor cfg f.shared t a)) none
 
--- so many are left after a choice
-pub left-after : (cfg : Config) (w : World) (t : ThreadId) (a : Option Actor) → RunsToday cfg → actor_of cfg w.flat t.0 ≡ a →
-    steps_left cfg.threads (world_after cfg w (choice.Turn t true)).flat.threads ≡ steps_left cfg.threads (turn_by cfg w.flat t true a).0.threads
-left-after cfg w t a today acting =
-    ap (λ (f : Flat). steps_left cfg.threads f.threads) (flat-after cfg w t)
-    ∙ ap (λ (p : Flat × Reply). steps_left cfg.threads p.0.threads) (step-turn cfg w.flat t today)
-    ∙ ap (λ x. steps_left cfg.threads (turn_by cfg w.flat t true x).0.threads) acting
+-- ---- an event of an actor
+
+module _ (cfg : Config) (f : Flat) (t : ThreadId) (a : Actor) (acting : actor_of cfg f t.0 ≡ Some a) where
+  -- what the script's word has it do
+  pub chosen-live : choice_by t (deed_by_want cfg f.shared a.program.home.0 (want_of cfg f t.0)) ≡ choice_of_thread cfg f t
+  chosen-live =
+      choice-by cfg f t a.program.home
+      (ap (λ o. option_map_or (λ (p : ThreadPart). p.home) o (record { 0 = 0 })) (actor-is cfg f t.0 a acting).program) (want_of cfg f t.0)
+
+  pub fits-live : HasCallers cfg f.shared.calls → fits cfg f (choice_by t (deed_by_want cfg f.shared a.program.home.0 (want_of cfg f t.0))) ≡ true
+  fits-live has = ap (fits cfg f) chosen-live ∙ script-fits cfg f t (slice_get_within cfg.threads t.0 a.program (actor-is cfg f t.0 a acting).program) has
+
+deed-counts : (cfg : Config) (a : Actor) (t : ThreadId) (f : Flat) (granted : Bool) (n : Next) (d : Deed) →
+    CountsOne a.thread (deed_row cfg (who_acts a t true) a.part a.program.steps f.shared a.thread granted n d).thread
+deed-counts cfg a t f granted n (deed.Turn room) = turn-counts cfg (who_acts a t room) a.part a.program.steps f.shared a.thread granted n
+deed-counts cfg a t f granted n (deed.Serve ticket) = serve-counts cfg a.program.home.0 a.program.steps f.shared a.thread ticket
+
+-- an actor's event takes one of the steps that are left
+pub left-live : (cfg : Config) (w : World) (t : ThreadId) → IsKeptState cfg w → (a : Actor) → actor_of cfg w.flat t.0 ≡ Some a →
+    steps_left cfg.threads (world_after cfg w (choice_of_thread cfg w.flat t)).flat.threads + 1 ≤ steps_left cfg.threads w.flat.threads
+left-live cfg w t kept a acting =
+    let it = actor-is cfg w.flat t.0 a acting in
+    let n = next_of_actor w.flat.shared.lines a t.0 in
+    let d = deed_by_want cfg w.flat.shared a.program.home.0 (want_of cfg w.flat t.0) in
+    let granted = holds_next cfg.board a.program.home.0 a.part w.flat.shared.owners n in
+    let v : ThreadState = (deed_row cfg (who_acts a t true) a.part a.program.steps w.flat.shared a.thread granted n d).thread in
+    let one = deed-counts cfg a t w.flat granted n d in
+    let below = (kept.going.budgets t.0 a.program a.thread it.program it.thread it.live).steps in
+    let less = steps_left-set cfg.threads w.flat.threads t.0 a.program a.thread v 1 it.program it.thread (left-one a.program a.thread v one it.live below) in
+    let stepped : (world_after cfg w (choice_of_thread cfg w.flat t)).flat.threads ≡ slice_set w.flat.threads t.0 v =
+    ap (λ (g : Flat). g.threads) (flat-after cfg w (choice_of_thread cfg w.flat t))
+    ∙ ap (λ c. (step cfg w.flat c).0.threads) (sym (chosen-live cfg w.flat t a acting))
+    ∙ ap (λ (p : Flat × Reply). p.0.threads) (step-live cfg w.flat t a acting d (fits-live cfg w.flat t a acting kept.callers)) in
+    subst (λ threads. steps_left cfg.threads threads + 1 ≤ steps_left cfg.threads w.flat.threads) (sym stepped) less
+
+-- an event of nobody leaves as many
+pub left-nobody : (cfg : Config) (w : World) (t : ThreadId) → actor_of cfg w.flat t.0 ≡ None →
+    steps_left cfg.threads (world_after cfg w (choice_of_thread cfg w.flat t)).flat.threads ≡ steps_left cfg.threads w.flat.threads
+left-nobody cfg w t none =
+    ap (λ (g : Flat). steps_left cfg.threads g.threads) (flat-after cfg w (choice_of_thread cfg w.flat t))
+    ∙ ap (λ c. steps_left cfg.threads (step cfg w.flat c).0.threads) (choice-nobody cfg w.flat t none)
+    ∙ ap (λ (p : Flat × Reply). steps_left cfg.threads p.0.threads) (step-nobody cfg w.flat t none)
+
+-- and so does a ring
+pub left-ring : (cfg : Config) (w : World) (line : Line) (by : ℕ) →
+    steps_left cfg.threads (world_after cfg w (choice.Ring line by)).flat.threads ≡ steps_left cfg.threads w.flat.threads
+left-ring cfg w line by =
+    ap (λ (g : Flat). steps_left cfg.threads g.threads) (flat-after cfg w (choice.Ring line by)) ∙ by_fit (fits cfg w.flat (choice.Ring line by)) refl
+  where
+    by_fit : (b : Bool) → fits cfg w.flat (choice.Ring line by) ≡ b →
+        steps_left cfg.threads (step cfg w.flat (choice.Ring line by)).0.threads ≡ steps_left cfg.threads w.flat.threads
+    by_fit true fit = ap (λ (p : Flat × Reply). steps_left cfg.threads p.0.threads) (step-fits cfg w.flat (choice.Ring line by) fit)
+    by_fit false fit = ap (λ (p : Flat × Reply). steps_left cfg.threads p.0.threads) (step-unfit cfg w.flat (choice.Ring line by) fit)
 
 -- ---- how many items an event has
 
-ended-in : (cfg : Config) (f : Flat) (t : ℕ) (a : Option Actor) → actor_of cfg f t ≡ a → (u : UnitState) →
-    (room : ℕ) → room ≡ event_room (record { flat = f; unit = u }) t → 1 ≤ room
-ended-in cfg f t a acting u room is = by_end (ended_in (record { flat = f; unit = u }) t) is
+some-room : (w : World) (t : ℕ) → 1 ≤ event_room w t
+some-room w t = by_end (ended_in w t)
   where
-    by_end : (b : Bool) → room ≡ cond b 1 4 → 1 ≤ room
-    by_end true same = omega (arith, same)
-    by_end false same = omega (arith, same)
+    by_end : (b : Bool) → 1 ≤ cond b 1 4
+    by_end true = omega arith
+    by_end false = omega arith
 
-live-room : (cfg : Config) (f : Flat) (u : UnitState) (t : ℕ) (a : Actor) → actor_of cfg f t ≡ Some a →
-    event_room (record { flat = f; unit = u }) t ≡ 4
-live-room cfg f u t a acting =
-    let it = actor-is cfg f t a acting in
+live-room : (cfg : Config) (w : World) (t : ℕ) (a : Actor) → actor_of cfg w.flat t ≡ Some a → event_room w t ≡ 4
+live-room cfg w t a acting =
+    let it = actor-is cfg w.flat t a acting in
     ap (λ o. cond (option_map_or has_ended o true) 1 4) it.thread ∙ ap (λ b. cond b 1 4) it.live
 
 -- an event is its unit's lines and one entry
-event-length : (cfg : Config) (w : World) (c : Choice) → length (event_items cfg w c) ≡ length (unit_lines cfg w.flat w.unit c) + 1
+pub event-length : (cfg : Config) (w : World) (c : Choice) → length (event_items cfg w c) ≡ length (unit_lines cfg w.flat w.unit c) + 1
 unfolding event_items
 event-length cfg w c =
     length-append (map item.Unit (unit_lines cfg w.flat w.unit c)) (item.Core (record { choice = c; reply = reply_to cfg w.flat c }) ∷ [])
     ∙ ap (λ n. n + 1) (length-map (unit_lines cfg w.flat w.unit c) (λ (l : UnitLine). item.Unit l))
+
+-- a ring has one
+pub ring-length : (cfg : Config) (w : World) (line : Line) (by : ℕ) → length (event_items cfg w (choice.Ring line by)) ≡ 1
+ring-length cfg w line by =
+    let none = ap (λ (ls : List UnitLine). length ls) (lines-idle cfg w.flat w.unit (choice.Ring line by) refl) in
+    omega (arith, event-length cfg w (choice.Ring line by), none)
 
 lines-length : (cfg : Config) (b : BoxId) (part : BoxPart) (plan : List Pair) (u : UnitState) (n : Next) (more : Bool) →
     length (lines_of_event cfg b part plan u (touch_in n) (is_page_turn n && more)) ≤ 3
@@ -123,20 +167,50 @@ lines-length cfg b part plan u n more =
       length-append (switch_lines u b) (access_lines plan (entered cfg part u b) (touch_in n)),
     ) (omega arith)
 
--- the event of a turn has at most so many
-pub event-fits : (cfg : Config) (w : World) (t : ThreadId) → length (event_items cfg w (choice.Turn t true)) ≤ event_room w t.0
+-- a switch alone
+switch-length : (cfg : Config) (b : BoxId) (part : BoxPart) (plan : List Pair) (u : UnitState) → length (lines_of_event cfg b part plan u None false) ≤ 3
+switch-length cfg b part plan u =
+    let first = switch-short u b in
+    rw (
+      length-append (switch_lines u b ++ access_lines plan (entered cfg part u b) None) (flush_lines false),
+      length-append (switch_lines u b) (access_lines plan (entered cfg part u b) None),
+    ) (omega arith)
+
+-- an actor's event has at most three of the unit's lines
+lines-few : (cfg : Config) (w : World) (t : ThreadId) (a : Actor) → actor_of cfg w.flat t.0 ≡ Some a → (d : Deed) →
+    length (unit_lines cfg w.flat w.unit (choice_by t d)) ≤ 3
+unfolding unit_lines touch_of empties_slots
+lines-few cfg w t a acting (deed.Turn true) =
+    let n = next_of_actor w.flat.shared.lines a t.0 in
+    let plan = plan_of cfg w.flat.shared.owners a.program.home.0 a.part in
+    let more = not (is_status (reply_to cfg w.flat (choice.Turn t true))) in
+    let same = ap (λ (o : Option Actor). length (lines_of_actor cfg w.flat w.unit (choice.Turn t true) o)) acting
+    ∙ ap (λ (o : Option Actor). length (lines_of_event cfg a.program.home a.part plan w.unit (touch_by w.flat t.0 o) (is_page_turn_by w.flat t.0 o && more))) acting in
+    subst (λ k. k ≤ 3) (sym same) (lines-length cfg a.program.home a.part plan w.unit n more)
+lines-few cfg w t a acting (deed.Turn false) =
+    subst (λ k. k ≤ 3) (sym (ap (λ (o : Option Actor). length (lines_of_actor cfg w.flat w.unit (choice.Turn t false) o)) acting))
+    (switch-length cfg a.program.home a.part (plan_of cfg w.flat.shared.owners a.program.home.0 a.part) w.unit)
+lines-few cfg w t a acting (deed.Serve None) =
+    subst (λ k. k ≤ 3) (sym (ap (λ (o : Option Actor). length (lines_of_actor cfg w.flat w.unit (choice.Idle t) o)) acting))
+    (switch-length cfg a.program.home a.part (plan_of cfg w.flat.shared.owners a.program.home.0 a.part) w.unit)
+lines-few cfg w t a acting (deed.Serve (Some ticket)) =
+    subst (λ k. k ≤ 3) (sym (ap (λ (o : Option Actor). length (lines_of_actor cfg w.flat w.unit (choice.Start t ticket) o)) acting))
+    (switch-length cfg a.program.home a.part (plan_of cfg w.flat.shared.owners a.program.home.0 a.part) w.unit)
+
+-- the event of a thread's word has at most so many
+pub event-fits : (cfg : Config) (w : World) (t : ThreadId) → length (event_items cfg w (choice_of_thread cfg w.flat t)) ≤ event_room w t.0
 event-fits cfg w t = by_actor (actor_of cfg w.flat t.0) refl
   where
-    by_actor : (a : Option Actor) → actor_of cfg w.flat t.0 ≡ a → length (event_items cfg w (choice.Turn t true)) ≤ event_room w t.0
-    by_actor None acting =
-        let none = ap (λ (ls : List UnitLine). length ls) (lines-idle cfg w.flat w.unit t acting) in
-        let some = ended-in cfg w.flat t.0 None acting w.unit (event_room w t.0) refl in
-        omega (arith, event-length cfg w (choice.Turn t true), none, some)
+    by_actor : (a : Option Actor) → actor_of cfg w.flat t.0 ≡ a → length (event_items cfg w (choice_of_thread cfg w.flat t)) ≤ event_room w t.0
+    by_actor None none =
+        let lines = ap (λ c. length (unit_lines cfg w.flat w.unit c)) (choice-nobody cfg w.flat t none)
+        ∙ ap (λ (ls : List UnitLine). length ls) (lines-idle cfg w.flat w.unit (choice.Turn t true) none) in
+        omega (arith, event-length cfg w (choice_of_thread cfg w.flat t), lines, some-room w t.0)
     by_actor (Some a) acting =
-        let lines = lines-live cfg w.flat w.unit t a acting (reply_to cfg w.flat (choice.Turn t true)) refl in
-        let short = lines-length cfg a.program.home a.part (plan_of cfg w.flat.shared.owners a.program.home.0 a.part) w.unit
-        (next_of_actor w.flat.shared.lines a t.0) (not (is_status (reply_to cfg w.flat (choice.Turn t true)))) in
-        omega (arith, event-length cfg w (choice.Turn t true), ap (λ (ls : List UnitLine). length ls) lines, short, live-room cfg w.flat w.unit t.0 a acting)
+        let d = deed_by_want cfg w.flat.shared a.program.home.0 (want_of cfg w.flat t.0) in
+        let lines = ap (λ c. length (unit_lines cfg w.flat w.unit c)) (sym (chosen-live cfg w.flat t a acting)) in
+        let few = lines-few cfg w t a acting d in
+        omega (arith, event-length cfg w (choice_of_thread cfg w.flat t), lines, few, live-room cfg w t.0 a acting)
 
 -- there is room for the entry behind the unit's lines
 pub room-for_entry : (cfg : Config) (w : World) (c : Choice) (j j1 : JournalState) →

@@ -1,5 +1,9 @@
+pub mod CallerLemmas
+pub mod EventLemmas
 pub mod FixtureSound
 pub mod KeptLemmas
 pub mod MachineLemmas
+pub mod PartLemmas
+pub mod ScriptLemmas
 pub mod TurnLemmas
 pub mod UnitLemmas

@@ -1,11 +1,10 @@
 -- What a machine keeps at its start and at each step, and what its log then is.
-use Rattle.std.proofs.Common.{◌≡◌, ℕ, ◌+◌, ◌-◌, ◌*◌, ◌<◌, ◌≤◌, Bool, true, false, cond, Some, List, [], ◌∷◌, ◌++◌, map, replicate, refl, sym, ap, ◌∙◌, subst, length, arith, sum_by, append-nil}
+use Rattle.std.proofs.Common.{◌≡◌, ℕ, ◌+◌, ◌-◌, ◌*◌, ◌<◌, ◌≤◌, Bool, true, false, cond, Option, Some, None, List, [], ◌∷◌, ◌++◌, map, replicate, refl, sym, ap, ◌∙◌, subst, length, arith, sum_by, append-nil}
 use Rattle.std.specs.List.{list_all, slice_get}
 use Rattle.std.specs.Option.{option_map_or}
 use Rattle.std.proofs.lemmas.Bool.{and_from}
-use Rattle.std.proofs.lemmas.Bool.Decides.{nat_tests}
 use Rattle.std.proofs.lemmas.List.{length-replicate}
-use Rattle.std.proofs.lemmas.List.Sums.{sum_by-cons}
+use Rattle.addr_base.specs.declared.identity.Line.{Line}
 use Rattle.addr_base.specs.declared.identity.ThreadId.{ThreadId}
 use Rattle.flat_model.specs.declared.events.Choice.{Choice}
 use Rattle.flat_model.specs.declared.events.Choice.TheVariants as choice
@@ -15,63 +14,51 @@ use Rattle.flat_model.specs.declared.events.Logged.{Logged}
 use Rattle.flat_model.specs.declared.parts.Config.{Config}
 use Rattle.flat_model.specs.declared.parts.ThreadPart.{ThreadPart}
 use Rattle.flat_model.specs.declared.states.ThreadState.{ThreadState}
-use Rattle.flat_model.specs.Actors.{Actor, actor_of}
+use Rattle.flat_model.specs.Actors.{Actor, actor_in, actor_of, live_actor}
 use Rattle.flat_model.specs.Kernel.{KernelState}
 use Rattle.flat_model.specs.Legal.{IsFlatRun, IsLegal, IsUnitRun, all_fit, is_agreed}
 use Rattle.flat_model.specs.Log.{Event, choices_of, ends_with_entry, events_of, replies_of}
 use Rattle.flat_model.specs.OneLog.{entries_of_run, log_of_choices, woven_items}
 use Rattle.flat_model.specs.Run.{ends_of, opening_state, state_after_all}
 use Rattle.flat_model.specs.Script.{choice_of_thread}
-use Rattle.flat_model.specs.Sound.{IsSound, IsThread}
-use Rattle.flat_model.specs.Stepping.{IsWithin, KeepsBudgets}
+use Rattle.flat_model.specs.Sound.{IsSound}
 use Rattle.flat_model.specs.StepsLeft.{steps_left}
 use Rattle.flat_model.specs.Thread.{has_ended}
 use Rattle.flat_model.specs.ThreadEvents.{opening_thread}
-use Rattle.flat_model.specs.Today.{RunsToday}
 use Rattle.flat_model.specs.Trace.{World, event_items, opening_world, trace_of, world_after, world_after_all, world_reached}
 use Rattle.flat_model.specs.UnitRun.{UnitState, lines_of_run, opening_unit}
-use Rattle.flat_model.specs.Want.{fits}
+use Rattle.flat_model.specs.Want.{fits, is_owned_line, want_of}
 use Rattle.flat_model.proofs.ActorLemmas.{actor-there}
 use Rattle.flat_model.proofs.Agreement.{trace-agrees}
-use Rattle.flat_model.proofs.Elements.{each-get, slice_get_some}
-use Rattle.flat_model.proofs.KeptSteps.{get-replicate, home-there}
+use Rattle.flat_model.proofs.Elements.{slice_get_some}
+use Rattle.flat_model.proofs.GoingOn.{goes-opening}
+use Rattle.flat_model.proofs.KeptSteps.{home-there}
 use Rattle.flat_model.proofs.ReadyWorlds.{IsWorldReady-opening}
 use Rattle.flat_model.proofs.TraceLemmas.{all_fit-append, choices_of-append, choices_of-event, ends_with_entry-trace, flat_after_all, lines_of-trace, replies_of-trace, trace_of-append, trace_of-woven, world_after_all-append}
-use Rattle.flat_model.proofs.WantLemmas.{choice-today, fits-turn}
 use Rattle.machine_core.specs.Journal.{JournalState, noted}
-use Rattle.machine_core.specs.Kept.{IsKept, IsKeptState}
+use Rattle.machine_core.specs.Kept.{HasCallers, IsKept, IsKeptState}
 use Rattle.machine_core.specs.State.{MachineState, after_choice, ended_in, event_room, state_of, world_with}
-use Rattle.machine_core.specs.View.{MachineView, events_beside, stepped, world_of}
-use Rattle.machine_core.proofs.KeptLemmas.{event-fits, kept-after, left-after, left-by, left-live}
+use Rattle.machine_core.specs.View.{MachineView, events_beside, rung, stepped, world_of}
+use Rattle.machine_core.proofs.KeptLemmas.{event-fits, kept-after, left-live, left-nobody, left-ring, ring-length}
+use Rattle.machine_core.proofs.ScriptLemmas.{script-fits}
 
 -- ---- the start
-
-steps_left-opening : (threads : List ThreadPart) →
-    steps_left threads (replicate (length threads) opening_thread) ≡ sum_by (λ (thread : ThreadPart). thread.steps) threads
-steps_left-opening [] = refl
-steps_left-opening (thread ∷ threads) =
-    let rest = steps_left-opening threads in
-    omega (arith, sum_by-cons (λ (thread : ThreadPart). thread.steps) thread threads)
 
 threads-opening : (cfg : Config) → (opening_state cfg).threads ≡ replicate (length cfg.threads) opening_thread
 unfolding opening_state
 threads-opening cfg = refl
 
-budgets-opening : (cfg : Config) → IsSound cfg → KeepsBudgets cfg (opening_state cfg)
-budgets-opening cfg sound t thread th there here =
-    let fresh : slice_get (replicate (length cfg.threads) opening_thread) t ≡ Some th =
-    subst (λ xs. slice_get xs t ≡ Some th) (threads-opening cfg) here in
-    let is : th ≡ opening_thread = get-replicate (length cfg.threads) opening_thread t th fresh in
-    let some = (each-get IsThread cfg.threads t thread sound.threads there).some_step in
-    subst (IsWithin thread) (sym is) (λ live. record { steps = omega (arith, some); calls = omega (arith, some) })
+calls-opening : (cfg : Config) → (opening_state cfg).shared.calls ≡ []
+unfolding opening_state
+calls-opening cfg = refl
 
 -- the world at the start is kept
-pub kept-opening : (cfg : Config) → IsSound cfg → RunsToday cfg → IsKeptState cfg (opening_world cfg)
-kept-opening cfg sound today = record {
+pub kept-opening : (cfg : Config) → IsSound cfg → IsKeptState cfg (opening_world cfg)
+kept-opening cfg sound = record {
   sound = sound;
-  today = today;
   reached = record { choices = []; reached = refl };
-  budgets = budgets-opening cfg sound;
+  going = goes-opening cfg sound;
+  callers = subst (HasCallers cfg) (sym (calls-opening cfg)) tt;
   numbered = ap length (threads-opening cfg) ∙ length-replicate (length cfg.threads) opening_thread;
 }
 
@@ -85,19 +72,19 @@ opening-is cfg k threads u kernel all unit =
     ∙ ap (world_with (record { config = cfg; shared = (opening_state cfg).shared }) (opening_state cfg).threads) unit
 
 -- a machine keeps its empty log at the start
-pub kept-boot : (cfg : Config) (drive : Drive) (extra : ℕ) (j : JournalState) (s : MachineState) (room : ℕ) → IsSound cfg → RunsToday cfg →
+pub kept-boot : (cfg : Config) (drive : Drive) (extra : ℕ) (j : JournalState) (s : MachineState) (room : ℕ) → IsSound cfg →
     s ≡ state_of cfg (opening_world cfg) → j ≡ record { items = []; room = room } →
     4 * sum_by (λ (thread : ThreadPart). thread.steps) cfg.threads + events_beside cfg drive extra ≤ room →
     IsKept cfg drive extra j s.world
-kept-boot cfg drive extra j s room sound today state journal enough =
+kept-boot cfg drive extra j s room sound state journal enough =
     subst (λ (v : MachineState). IsKept cfg drive extra j v.world) (sym state)
     (subst (λ (x : JournalState). IsKept cfg drive extra x (opening_world cfg)) (sym journal) (record {
-      state = kept-opening cfg sound today;
+      state = kept-opening cfg sound;
       traced = refl;
       world = refl;
       fitting = refl;
       room =
-          let left = ap (steps_left cfg.threads) (threads-opening cfg) ∙ steps_left-opening cfg.threads in
+          let left = (goes-opening cfg sound).room in
           omega (arith, left, enough);
     }))
 
@@ -155,98 +142,175 @@ acts-live cfg w t kept below live =
       actor-there cfg w.flat t true (record { home = program.0.home; thread = t; room = true }) part.0 program.0 th.0 program.1 part.1 refl th.1 running,
     )
 
+-- where a thread has ended, nobody acts
+nobody-by : (cfg : Config) (program : Option ThreadPart) (o : Option ThreadState) → option_map_or has_ended o true ≡ true → live_actor cfg program o ≡ None
+nobody-by cfg None o ended = refl
+nobody-by cfg (Some program) None ended = refl
+nobody-by cfg (Some program) (Some th) ended = ap (λ b. cond b None (actor_in cfg program th)) ended
+
+nobody-ended : (cfg : Config) (w : World) (t : ThreadId) → ended_in w t.0 ≡ true → actor_of cfg w.flat t.0 ≡ None
+nobody-ended cfg w t ended = nobody-by cfg (slice_get cfg.threads t.0) (slice_get w.flat.threads t.0) ended
+
+-- after an event that fits the machine keeps its log, where there is room for it and for those that may follow
+kept-event : (cfg : Config) (extra less : ℕ) (j : JournalState) (w : World) (c : Choice) → IsKept cfg Script extra j w →
+    fits cfg w.flat c ≡ true →
+    length (event_items cfg w c) + (4 * steps_left cfg.threads (world_after cfg w c).flat.threads + less)
+    ≤ 4 * steps_left cfg.threads w.flat.threads + extra →
+    IsKept cfg Script less (noted j (event_items cfg w c)) (world_after cfg w c)
+kept-event cfg extra less j w c kept fit leaves = record {
+  state = kept-after cfg w c kept.state;
+  traced = subst (λ v. j.items ++ event_items cfg v c
+      ≡ trace_of cfg (opening_world cfg) (choices_of (j.items ++ event_items cfg v c))) (sym kept.world)
+      (traced-more cfg j.items c kept.traced);
+  world = ap (λ v. world_after cfg v c) kept.world ∙ sym (reached-more cfg j.items w c);
+  fitting = fitting-more cfg j.items w c kept.fitting (subst (λ (v : World). fits cfg v.flat c ≡ true) kept.world fit);
+  room = omega (arith, leaves, kept.room);
+}
+
 module _ (cfg : Config) (extra : ℕ) (j : JournalState) (w : World) (t : ThreadId)
     (kept : IsKept cfg Script extra j w) (below : t.0 < length cfg.threads)
     (paid : ended_in w t.0 ≡ true → 1 ≤ extra) where
   -- what an event leaves of the room: its items, and the events that may follow
-  room-turn : event_room w t.0 + (4 * steps_left cfg.threads (world_after cfg w (choice.Turn t true)).flat.threads
+  room-step : event_room w t.0 + (4 * steps_left cfg.threads (world_after cfg w (choice_of_thread cfg w.flat t)).flat.threads
       + cond (ended_in w t.0) (extra - 1) extra) ≤ 4 * steps_left cfg.threads w.flat.threads + extra
-  room-turn = by_end (ended_in w t.0) refl
+  room-step = by_end (ended_in w t.0) refl
     where
-      by_end : (b : Bool) → ended_in w t.0 ≡ b → cond b 1 4 + (4 * steps_left cfg.threads (world_after cfg w (choice.Turn t true)).flat.threads
+      by_end : (b : Bool) → ended_in w t.0 ≡ b → cond b 1 4 + (4 * steps_left cfg.threads (world_after cfg w (choice_of_thread cfg w.flat t)).flat.threads
           + cond b (extra - 1) extra) ≤ 4 * steps_left cfg.threads w.flat.threads + extra
-      by_end true ended =
-          let left = left-by cfg w.flat t (actor_of cfg w.flat t.0) refl kept.state.budgets in
-          omega (arith, left, left-after cfg w t (actor_of cfg w.flat t.0) kept.state.today refl, paid ended)
+      by_end true ended = omega (arith, left-nobody cfg w t (nobody-ended cfg w t ended), paid ended)
       by_end false live =
           let actor = acts-live cfg w t kept.state below live in
-          let left = left-live cfg w.flat t actor.0 actor.1 kept.state.budgets in
-          omega (arith, left, left-after cfg w t (Some actor.0) kept.state.today actor.1)
+          omega (arith, left-live cfg w t kept.state actor.0 actor.1)
 
-  -- there is room for a turn
+  -- there is room for the event
   pub has_room : event_room w t.0 ≤ j.room
-  has_room = omega (arith, room-turn, kept.room)
+  has_room = omega (arith, room-step, kept.room)
 
-  -- after a turn the machine keeps its log
+  -- after it the machine keeps its log
   pub kept-turn : IsKept cfg Script (cond (ended_in w t.0) (extra - 1) extra)
-      (noted j (event_items cfg w (choice.Turn t true))) (world_after cfg w (choice.Turn t true))
+      (noted j (event_items cfg w (choice_of_thread cfg w.flat t))) (world_after cfg w (choice_of_thread cfg w.flat t))
   kept-turn =
-      let fit : fits cfg w.flat (choice.Turn t true) ≡ true = fits-turn cfg w.flat t kept.state.today ∙ grind (arith, nat_tests) in record {
-        state = kept-after cfg w t kept.state;
-        traced = subst (λ v. j.items ++ event_items cfg v (choice.Turn t true)
-            ≡ trace_of cfg (opening_world cfg) (choices_of (j.items ++ event_items cfg v (choice.Turn t true)))) (sym kept.world)
-            (traced-more cfg j.items (choice.Turn t true) kept.traced);
-        world = ap (λ v. world_after cfg v (choice.Turn t true)) kept.world ∙ sym (reached-more cfg j.items w (choice.Turn t true));
-        fitting = fitting-more cfg j.items w (choice.Turn t true) kept.fitting
-            (subst (λ (v : World). fits cfg v.flat (choice.Turn t true) ≡ true) kept.world fit);
-        room = omega (arith, room-turn, kept.room, event-fits cfg w t);
-      }
+      kept-event cfg extra (cond (ended_in w t.0) (extra - 1) extra) j w (choice_of_thread cfg w.flat t) kept
+      (script-fits cfg w.flat t below kept.state.callers)
+      (omega (arith, room-step, event-fits cfg w t))
+
+module _ (cfg : Config) (extra : ℕ) (j : JournalState) (w : World) (line : Line)
+    (kept : IsKept cfg Script extra j w) (owned : is_owned_line cfg line.0 ≡ true) (paid : 1 ≤ extra) where
+  -- after a ring the machine keeps its log
+  pub kept-ring : IsKept cfg Script (extra - 1) (noted j (event_items cfg w (choice.Ring line 0))) (world_after cfg w (choice.Ring line 0))
+  kept-ring =
+      kept-event cfg extra (extra - 1) j w (choice.Ring line 0) kept owned
+      (omega (arith, ring-length cfg w line 0, left-ring cfg w line 0, paid))
 
 -- what a contract sees of a machine
 abbrev seen : Config → Drive → ℕ → JournalState → MachineView
 seen cfg drive extra j = record { config = cfg; drive = drive; extra = extra; items = j.items; room = j.room }
 
-module _ (v : MachineView) (cfg : Config) (drive : Drive) (extra : ℕ) (j : JournalState) (s : MachineState) (t : ThreadId)
+module _ (v : MachineView) (cfg : Config) (drive : Drive) (extra : ℕ) (j : JournalState) (s : MachineState)
     (is : record { config = cfg; drive = drive; extra = extra; items = j.items; room = j.room } ≡ v)
-    (script : v.drive ≡ Script) (below : t.0 < length v.config.threads)
-    (paid : ended_in (world_of v) t.0 ≡ true → 1 ≤ v.extra)
-    (same : s.config ≡ cfg) (kept : IsKept cfg drive extra j s.world) where
+    (script : v.drive ≡ Script) (same : s.config ≡ cfg) (kept : IsKept cfg drive extra j s.world) where
   script-is : drive ≡ Script
   script-is = ap (λ (x : MachineView). x.drive) is ∙ script
 
   kept-script : IsKept cfg Script extra j s.world
   kept-script = subst (λ d. IsKept cfg d extra j s.world) script-is kept
 
-  there : t.0 < length cfg.threads
-  there = subst (λ (x : MachineView). t.0 < length x.config.threads) (sym is) below
+  -- what the machine keeps after an event, put together
+  kept-seen : (less : ℕ) (j2 : JournalState) (s2 : MachineState) (c : Choice) → j2 ≡ noted j (event_items cfg s.world c) →
+      s2.world ≡ world_after cfg s.world c → IsKept cfg Script less (noted j (event_items cfg s.world c)) (world_after cfg s.world c) →
+      IsKept cfg drive less j2 s2.world
+  kept-seen less j2 s2 c journal world it =
+      subst (λ d. IsKept cfg d less j2 s2.world) (sym script-is)
+      (subst (λ (x : JournalState). IsKept cfg Script less x s2.world) (sym journal)
+      (subst (IsKept cfg Script less (noted j (event_items cfg s.world c))) (sym world) it))
 
-  pays : ended_in s.world t.0 ≡ true → 1 ≤ extra
-  pays = subst (λ (x : World). ended_in x t.0 ≡ true → 1 ≤ extra) (sym kept.world)
-      (subst (λ (x : MachineView). ended_in (world_of x) t.0 ≡ true → 1 ≤ x.extra) (sym is) paid)
+  module _ (t : ThreadId) (below : t.0 < length v.config.threads) (paid : ended_in (world_of v) t.0 ≡ true → 1 ≤ v.extra) where
+    there : t.0 < length cfg.threads
+    there = subst (λ (x : MachineView). t.0 < length x.config.threads) (sym is) below
 
-  -- there is room for a step of the script
-  pub step-room : event_room s.world t.0 ≤ j.room
-  step-room = has_room cfg extra j s.world t kept-script there pays
+    pays : ended_in s.world t.0 ≡ true → 1 ≤ extra
+    pays = subst (λ (x : World). ended_in x t.0 ≡ true → 1 ≤ extra) (sym kept.world)
+        (subst (λ (x : MachineView). ended_in (world_of x) t.0 ≡ true → 1 ≤ x.extra) (sym is) paid)
 
-  module _ (less : ℕ) (j2 : JournalState) (s2 : MachineState) (pay : less ≡ cond (ended_in s.world t.0) (extra - 1) extra)
-      (journal : j2 ≡ noted j (event_items s.config s.world (choice.Turn t true))) (state : s2 ≡ after_choice s (choice.Turn t true)) where
-    journal-is : j2 ≡ noted j (event_items cfg s.world (choice.Turn t true))
-    journal-is = journal ∙ ap (λ c. noted j (event_items c s.world (choice.Turn t true))) same
+    -- there is room for a step of the script
+    pub step-room : event_room s.world t.0 ≤ j.room
+    step-room = has_room cfg extra j s.world t kept-script there pays
 
-    -- its state is of the same configuration
-    pub step-config : s2.config ≡ cfg
-    step-config = ap (λ (x : MachineState). x.config) state ∙ same
+    module _ (less : ℕ) (j2 : JournalState) (s2 : MachineState) (pay : less ≡ cond (ended_in s.world t.0) (extra - 1) extra)
+        (journal : j2 ≡ noted j (event_items s.config s.world (choice_of_thread s.config s.world.flat t)))
+        (state : s2 ≡ after_choice s (choice_of_thread s.config s.world.flat t)) where
+      journal-is : j2 ≡ noted j (event_items cfg s.world (choice_of_thread cfg s.world.flat t))
+      journal-is = journal ∙ ap (λ c. noted j (event_items c s.world (choice_of_thread c s.world.flat t))) same
 
-    -- after it the machine keeps its log
-    pub step-kept : IsKept cfg drive less j2 s2.world
-    step-kept =
-        subst (λ d. IsKept cfg d less j2 s2.world) (sym script-is)
-        (subst (λ n. IsKept cfg Script n j2 s2.world) (sym pay)
-        (subst (λ (x : JournalState). IsKept cfg Script (cond (ended_in s.world t.0) (extra - 1) extra) x s2.world) (sym journal-is)
-        (subst (IsKept cfg Script (cond (ended_in s.world t.0) (extra - 1) extra) (noted j (event_items cfg s.world (choice.Turn t true))))
-        (sym (ap (λ (x : MachineState). x.world) state ∙ ap (λ c. world_after c s.world (choice.Turn t true)) same))
-        (kept-turn cfg extra j s.world t kept-script there pays))))
+      -- its state is of the same configuration
+      pub step-config : s2.config ≡ cfg
+      step-config = ap (λ (x : MachineState). x.config) state ∙ same
 
-    -- and is the machine after it
-    pub step-is : record { config = cfg; drive = drive; extra = less; items = j2.items; room = j2.room } ≡ stepped v t
-    step-is =
-        ap (λ n. seen cfg drive n j2) pay
-        ∙ ap (seen cfg drive (cond (ended_in s.world t.0) (extra - 1) extra)) journal-is
-        ∙ ap (λ c. seen cfg drive (cond (ended_in s.world t.0) (extra - 1) extra) (noted j (event_items cfg s.world c)))
-        (sym (choice-today cfg s.world.flat t kept.state.today))
-        ∙ ap (λ (x : World). seen cfg drive (cond (ended_in x t.0) (extra - 1) extra)
-        (noted j (event_items cfg x (choice_of_thread cfg x.flat t)))) kept.world
-        ∙ ap (λ x. stepped x t) is
+      -- after it the machine keeps its log
+      pub step-kept : IsKept cfg drive less j2 s2.world
+      step-kept =
+          kept-seen less j2 s2 (choice_of_thread cfg s.world.flat t) journal-is
+          (ap (λ (x : MachineState). x.world) state ∙ ap (λ c. world_after c s.world (choice_of_thread c s.world.flat t)) same)
+          (subst (λ n. IsKept cfg Script n (noted j (event_items cfg s.world (choice_of_thread cfg s.world.flat t))) (world_after cfg s.world (choice_of_thread cfg s.world.flat t))) (sym pay)
+          (kept-turn cfg extra j s.world t kept-script there pays))
+
+      -- and is the machine after it
+      pub step-is : record { config = cfg; drive = drive; extra = less; items = j2.items; room = j2.room } ≡ stepped v t
+      step-is =
+          ap (λ n. seen cfg drive n j2) pay
+          ∙ ap (seen cfg drive (cond (ended_in s.world t.0) (extra - 1) extra)) journal-is
+          ∙ ap (λ (x : World). seen cfg drive (cond (ended_in x t.0) (extra - 1) extra)
+          (noted j (event_items cfg x (choice_of_thread cfg x.flat t)))) kept.world
+          ∙ ap (λ x. stepped x t) is
+
+  module _ (line : Line) (owned : is_owned_line v.config line.0 ≡ true) (paid : 1 ≤ v.extra) where
+    owned-there : is_owned_line cfg line.0 ≡ true
+    owned-there = subst (λ (x : MachineView). is_owned_line x.config line.0 ≡ true) (sym is) owned
+
+    ring-paid : 1 ≤ extra
+    ring-paid = subst (λ (x : MachineView). 1 ≤ x.extra) (sym is) paid
+
+    -- there is room for a ring
+    pub ring-room : 1 ≤ j.room
+    ring-room = omega (arith, kept-script.room, ring-paid)
+
+    -- a box of the state's configuration owns the line
+    pub ring-owned : is_owned_line s.config line.0 ≡ true
+    ring-owned = subst (λ c. is_owned_line c line.0 ≡ true) (sym same) owned-there
+
+    module _ (less : ℕ) (j2 : JournalState) (s2 : MachineState) (pay : less ≡ extra - 1)
+        (journal : j2 ≡ noted j (event_items s.config s.world (choice.Ring line 0))) (state : s2 ≡ after_choice s (choice.Ring line 0)) where
+      ring-journal : j2 ≡ noted j (event_items cfg s.world (choice.Ring line 0))
+      ring-journal = journal ∙ ap (λ c. noted j (event_items c s.world (choice.Ring line 0))) same
+
+      -- its state is of the same configuration
+      pub ring-config : s2.config ≡ cfg
+      ring-config = ap (λ (x : MachineState). x.config) state ∙ same
+
+      -- after it the machine keeps its log
+      pub ring-kept : IsKept cfg drive less j2 s2.world
+      ring-kept =
+          kept-seen less j2 s2 (choice.Ring line 0) ring-journal
+          (ap (λ (x : MachineState). x.world) state ∙ ap (λ c. world_after c s.world (choice.Ring line 0)) same)
+          (subst (λ n. IsKept cfg Script n (noted j (event_items cfg s.world (choice.Ring line 0))) (world_after cfg s.world (choice.Ring line 0))) (sym pay)
+          (kept-ring cfg extra j s.world line kept-script owned-there ring-paid))
+
+      -- and is the machine after it
+      pub ring-is : record { config = cfg; drive = drive; extra = less; items = j2.items; room = j2.room } ≡ rung v line
+      ring-is =
+          ap (λ n. seen cfg drive n j2) pay
+          ∙ ap (seen cfg drive (extra - 1)) ring-journal
+          ∙ ap (λ (x : World). seen cfg drive (extra - 1) (noted j (event_items cfg x (choice.Ring line 0)))) kept.world
+          ∙ ap (λ x. rung x line) is
+
+-- what a thread wants, as the log tells it
+pub wants-is : (v : MachineView) (cfg : Config) (drive : Drive) (extra : ℕ) (j : JournalState) (s : MachineState) →
+    record { config = cfg; drive = drive; extra = extra; items = j.items; room = j.room } ≡ v → s.config ≡ cfg → IsKept cfg drive extra j s.world →
+    (t : ThreadId) → want_of s.config s.world.flat t.0 ≡ want_of v.config (world_of v).flat t.0
+wants-is v cfg drive extra j s is same kept t =
+    ap (λ c. want_of c s.world.flat t.0) same
+    ∙ ap (λ (x : World). want_of cfg x.flat t.0) kept.world
+    ∙ ap (λ (x : MachineView). want_of x.config (world_of x).flat t.0) is
 
 -- ---- the log
 

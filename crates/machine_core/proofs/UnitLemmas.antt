@@ -145,3 +145,10 @@ room-left j j1 j2 first second one two few some room =
     let l1 = length-map first (λ (l : UnitLine). item.Unit l) in
     let l2 = length-map second (λ (l : UnitLine). item.Unit l) in
     omega (arith, r1, r2, l1, l2, few, some, room)
+
+-- there is room for a flush behind an access
+pub room-behind : (j j1 : JournalState) (lines : List UnitLine) → j1 ≡ noted j (map item.Unit lines) → length lines ≤ 2 → 3 ≤ j.room → 0 < j1.room
+room-behind j j1 lines is few room =
+    let r1 : j1.room ≡ j.room - length (map item.Unit lines) = ap (λ (x : JournalState). x.room) is in
+    let l1 = length-map lines (λ (l : UnitLine). item.Unit l) in
+    omega (arith, r1, l1, few, room)

@@ -5,6 +5,7 @@ use Rattle.flat_model.specs.declared.instructions.Instr.{Instr}
 use Rattle.flat_model.specs.declared.instructions.Instr.TheVariants as instr
 use Rattle.flat_model.specs.declared.parts.BoxPart.{BoxPart}
 use Rattle.flat_model.specs.declared.parts.Config.{Config}
+use Rattle.flat_model.specs.declared.parts.IrqPart.{IrqPart}
 use Rattle.flat_model.specs.declared.parts.Item.{Item}
 use Rattle.flat_model.specs.declared.parts.ThreadPart.{ThreadPart}
 
@@ -20,8 +21,8 @@ board = record {
 }
 
 -- a box of 256 bytes with two threads
-abbrev pub part : List ℕ → ℕ → ℕ → List Item → BoxPart
-part name base first grants = record {
+abbrev pub part : List ℕ → ℕ → ℕ → List Item → List IrqPart → BoxPart
+part name base first grants irqs = record {
   name = name;
   own = record { base = base; len = 256 };
   secret = false;
@@ -31,7 +32,7 @@ part name base first grants = record {
   items = (record { range = record { base = 0; len = 1048576 }; rights = record { bits = 5 } }
       ∷ record { range = record { base = base; len = 256 }; rights = record { bits = 3 } } ∷ []) ++ grants;
   grants = grants;
-  irqs = [];
+  irqs = irqs;
 }
 
 -- a thread of a box
@@ -42,19 +43,23 @@ thread home program steps = record { home = record { 0 = home }; program = progr
 abbrev pub grant : Item
 grant = record { range = record { base = 1073741856; len = 224 }; rights = record { bits = 3 } }
 
--- two boxes of two threads
+-- line 5, with the first place as its handler
+abbrev pub irq : IrqPart
+irq = record { line = record { 0 = 5 }; handler = 0 }
+
+-- two boxes of two threads, of which the first may call the second
 abbrev pub two_boxes : Config
 two_boxes = record {
   version = 1;
   board = board;
-  boxes = part (97 ∷ []) 536870912 0 (grant ∷ []) ∷ part (98 ∷ []) 536871168 2 [] ∷ [];
+  boxes = part (97 ∷ []) 536870912 0 (grant ∷ []) (irq ∷ []) ∷ part (98 ∷ []) 536871168 2 [] [] ∷ [];
   threads =
       thread 0 (instr.Set 0 536870912 ∷ instr.Store32 0 0 4 ∷ instr.Load32 1 0 4 ∷ instr.Halt ∷ []) 100
-      ∷ thread 0 (instr.Set 0 1073741856 ∷ instr.Load32 3 0 220 ∷ []) 100
+      ∷ thread 0 (instr.Set 0 1073741856 ∷ instr.Load32 3 0 220 ∷ instr.RpcCall 1 0 ∷ []) 100
       ∷ thread 1 (instr.Set 0 536870912 ∷ instr.Load32 1 0 0 ∷ []) 100
       ∷ thread 1 (instr.Set 1 1 ∷ instr.Jump 0 ∷ []) 2 ∷ [];
   registers = [];
-  gateways = [];
+  gateways = record { target = record { 0 = 1 }; function = 7; callers = 1 } ∷ [];
   devices = [];
   script = [];
 }

@@ -1,16 +1,17 @@
 -- Inner: no public contract cites this. What a machine keeps of its state and of its journal.
-use Rattle.std.specs.Prelude.{◌≡◌, ℕ, ◌+◌, ◌*◌, ◌≤◌, true, List, [], length}
+use Rattle.std.specs.Prelude.{◌≡◌, ℕ, ◌+◌, ◌*◌, ◌<◌, ◌≤◌, true, List, [], length}
+use Rattle.std.specs.List.{AllByRecursion}
 use Rattle.flat_model.specs.declared.events.Choice.{Choice}
 use Rattle.flat_model.specs.declared.events.Drive.{Drive}
 use Rattle.flat_model.specs.declared.logs.End.{End}
 use Rattle.flat_model.specs.declared.parts.Config.{Config}
+use Rattle.flat_model.specs.declared.states.Call.{Call}
 use Rattle.flat_model.specs.Legal.{all_fit}
 use Rattle.flat_model.specs.Log.{choices_of}
 use Rattle.flat_model.specs.Run.{opening_state}
 use Rattle.flat_model.specs.Sound.{IsSound}
-use Rattle.flat_model.specs.Stepping.{KeepsBudgets}
+use Rattle.flat_model.specs.Stepping.{CanGoOn}
 use Rattle.flat_model.specs.StepsLeft.{steps_left}
-use Rattle.flat_model.specs.Today.{RunsToday}
 use Rattle.flat_model.specs.Trace.{World, opening_world, trace_of, world_after_all, world_reached}
 use Rattle.machine_core.specs.Journal.{JournalState}
 use Rattle.machine_core.specs.View.{events_beside}
@@ -20,12 +21,17 @@ pub record IsReached (cfg : Config) (w : World) : Type 0 where
   pub choices : List Choice
   pub reached : w ≡ world_after_all cfg (opening_world cfg) choices
 
--- the state is one that choices reach, and each thread that may still run has steps left
+-- each call is of a thread of the configuration
+abbrev pub HasCallers : Config → List Call → Type 0
+HasCallers cfg calls = AllByRecursion (λ call. call.ticket.thread.0 < length cfg.threads) calls
+
+-- the state is one that choices reach; each thread that may still run has steps left, its calls are counted, and there
+-- is room for those that may come
 pub record IsKeptState (cfg : Config) (w : World) : Type 0 where
   pub sound : IsSound cfg
-  pub today : RunsToday cfg
   pub reached : IsReached cfg w
-  pub budgets : KeepsBudgets cfg w.flat
+  pub going : CanGoOn cfg w.flat
+  pub callers : HasCallers cfg w.flat.shared.calls
   pub numbered : length w.flat.threads ≡ length cfg.threads
 
 -- the items are those of the world that they reached, and there is room for all that may come

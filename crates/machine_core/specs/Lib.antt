@@ -1,6 +1,9 @@
+pub mod Deeds
+pub mod Events
 pub mod Fixture
 pub mod Journal
 pub mod Kept
+pub mod Parts
 pub mod State
 pub mod Unit
 pub mod View

@@ -1,8 +1,10 @@
 -- What a contract sees of a machine: its configuration, its drive, how many extra events may come, its log, and for how
 -- many more items there is room.
 use Rattle.std.specs.Prelude.{ℕ, ◌+◌, ◌-◌, ◌*◌, List, [], ◌++◌, length, sum_by, if◌then◌else◌}
+use Rattle.addr_base.specs.declared.identity.Line.{Line}
 use Rattle.addr_base.specs.declared.identity.ThreadId.{ThreadId}
 use Rattle.flat_model.specs.declared.events.Choice.{Choice}
+use Rattle.flat_model.specs.declared.events.Choice.TheVariants as choice
 use Rattle.flat_model.specs.declared.events.Drive.{Drive}
 use Rattle.flat_model.specs.declared.events.Drive.TheVariants.{Script, Threads}
 use Rattle.flat_model.specs.declared.events.Logged.{Logged}
@@ -55,3 +57,7 @@ stepped v t =
     record (after_event v (choice_of_thread v.config (world_of v).flat t)) {
       extra = if ended_in (world_of v) t.0 then v.extra - 1 else v.extra;
     }
+
+-- the machine after a ring of a line
+abbrev pub rung : MachineView → Line → MachineView
+rung v line = record (after_event v (choice.Ring line 0)) { extra = v.extra - 1 }

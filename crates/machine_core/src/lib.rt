@@ -1,10 +1,13 @@
 //! The machine: a configuration, the state of its boxes, and the legal log of what happened.
 #![tactic(auto)]
 
+mod acting;
+mod deeds;
 mod journal;
 mod kernel;
 mod machine;
 mod state;
+mod tables;
 #[cfg(test)]
 mod tests;
 mod unit;

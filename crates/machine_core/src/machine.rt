@@ -4,13 +4,15 @@ ghost use Rattle.flat_model.specs.Log.{choices_of};
 ghost use Rattle.flat_model.specs.OneLog.{log_of_choices};
 ghost use Rattle.flat_model.specs.Run.{end_of_thread};
 ghost use Rattle.flat_model.specs.Sound.{IsSound};
-ghost use Rattle.flat_model.specs.Today.{RunsToday};
+ghost use Rattle.flat_model.specs.Want.{is_owned_line, want_of};
 ghost use Rattle.machine_core.specs.State.{ended_in};
-ghost use Rattle.machine_core.specs.View.{booted, events_beside, stepped, world_of};
+ghost use Rattle.machine_core.specs.View.{booted, events_beside, rung, stepped, world_of};
 
 use crate::journal::Journal;
 use crate::state::State;
-use flat_model::{Config, Drive, End, Items, Log, OutOfMemory, ThreadId, ThreadPart, ThreadState};
+use flat_model::{
+    Config, Drive, End, Items, Line, Log, OutOfMemory, ThreadId, ThreadPart, ThreadState, Want,
+};
 use std::alloc::Global;
 use std::marker::Model;
 
@@ -110,8 +112,7 @@ impl Machine {
         drive: Drive,
         extra: u32,
     ) -> Result<Machine, OutOfMemory>
-        requires sound { IsSound config }
-        requires today { RunsToday config }
+        requires { IsSound config }
         ensures { IfOk result (λ machine. machine ≡ booted config drive extra) }
     {
         let steps = total_steps(config.threads.as_slice());
@@ -150,6 +151,13 @@ impl Machine {
         self.state.has_ended(t)
     }
 
+    /// What the thread wants: room in the inbox of a box, the next call, or neither.
+    pub fn wants(&self, t: ThreadId) -> Want
+        ensures { result ≡ want_of self.now.config (world_of self.now).flat t.0 }
+    {
+        self.state.wants(&self.config, t)
+    }
+
     /// The event that the thread's word of the script stands for.
     pub fn script_step(&mut self, t: ThreadId)
         requires thread { t.0 < length self.old.config.threads }
@@ -158,8 +166,19 @@ impl Machine {
         ensures { self.new ≡ stepped self.old t }
     {
         let extra = extra_after(self.extra, self.state.has_ended(t));
-        self.state.turn(&self.config, t, &mut self.journal);
+        self.state.step(&self.config, t, &mut self.journal);
         self.extra = extra;
+    }
+
+    /// A ring of a line that a box owns, as a word of the script makes it.
+    pub fn ring_plain(&mut self, line: Line)
+        requires owned { is_owned_line self.old.config line.0 ≡ true }
+        requires drive { self.old.drive ≡ Drive.Script }
+        requires extra { 1 ≤ self.old.extra }
+        ensures { self.new ≡ rung self.old line }
+    {
+        self.state.ring(line, &mut self.journal);
+        self.extra -= 1;
     }
 
     /// The configuration, and the log with the end of each thread. It takes no memory.

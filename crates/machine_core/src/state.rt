@@ -1,20 +1,23 @@
-ghost use Rattle.std.specs.Prelude.{◌≡◌, ◌≤◌, ◌&&◌, not, true, IfOk, map};
+ghost use Rattle.std.specs.Prelude.{◌≡◌, ◌<◌, ◌≤◌, true, IfOk, length, map};
+ghost use Rattle.flat_model.specs.declared.events.Choice.{Choice};
 ghost use Rattle.flat_model.specs.declared.events.Logged.TheVariants as item;
-ghost use Rattle.flat_model.specs.Next.{is_page_turn};
+ghost use Rattle.flat_model.specs.Script.{choice_of_thread};
 ghost use Rattle.flat_model.specs.Sound.{IsSound};
-ghost use Rattle.flat_model.specs.Step.{is_status, reply_to};
-ghost use Rattle.flat_model.specs.Today.{RunsToday};
+ghost use Rattle.flat_model.specs.Step.{reply_to};
 ghost use Rattle.flat_model.specs.Trace.{event_items, opening_world};
 ghost use Rattle.flat_model.specs.UnitRun.{unit_lines};
+ghost use Rattle.flat_model.specs.Want.{is_owned_line, want_of};
 ghost use Rattle.machine_core.specs.Journal.{noted};
 ghost use Rattle.machine_core.specs.State.{IsActing, after_choice, ended_in, event_room};
 
+use crate::acting::act;
+use crate::deeds::Deed;
 use crate::journal::Journal;
 use crate::kernel::MachineKernel;
 use crate::unit::ProtectionUnit;
 use flat_model::{
-    Actor, Choice, Config, Entry, Items, Logged, Next, OutOfMemory, Reply, ThreadId, ThreadState,
-    opening_threads,
+    Actor, Choice, Config, Entry, Items, Line, Logged, OutOfMemory, Reply, ThreadId, ThreadState,
+    Want, opening_threads, want_of,
 };
 use std::alloc::Global;
 use std::marker::Model;
@@ -44,18 +47,10 @@ impl Model for State {
         × IsKeptState s.kernel.config (world_with s.kernel s.threads s.unit.unit) };
 }
 
-// Whether a turn that comes to this and was answered so empties the slots of the circle.
-fn empties_slots(next: Next, reply: Reply) -> bool
-    ensures { result ≡ (is_page_turn next && not (is_status reply)) }
-{
-    next.is_page_turn() && !reply.is_status()
-}
-
 impl State {
     /// The state at the start.
     pub fn opening(alloc: Global, cfg: &Config) -> Result<State, OutOfMemory>
-        requires sound { IsSound cfg.now }
-        requires today { RunsToday cfg.now }
+        requires { IsSound cfg.now }
         ensures { IfOk result (λ state.
             state ≡ record { config = cfg.now; world = opening_world cfg.now }) }
     {
@@ -86,55 +81,96 @@ impl State {
         self.threads.as_slice()
     }
 
-    // What an actor does, with the unit's lines.
-    fn act(&mut self, actor: Actor<'_>, journal: &mut Journal) -> Reply
+    /// What the thread with this number wants.
+    pub fn wants(&self, cfg: &Config, t: ThreadId) -> Want
+        requires { self.now.config ≡ cfg.now }
+        ensures { result ≡ want_of self.now.config self.now.world.flat t.0 }
+    {
+        want_of(cfg, &self.kernel, &self.threads, t)
+    }
+
+    // What a script's word has an actor do, with the unit's lines, and its entry.
+    fn take(&mut self, actor: Actor<'_>, journal: &mut Journal) -> Entry
         requires acts { IsActing self.old actor.who actor.part.now actor.program.now }
         requires room { 4 ≤ journal.old.room }
 
-        ensures state { self.new ≡ after_choice self.old (Choice.Turn actor.entry.who.thread true) }
-        ensures reply { result ≡ reply_to self.old.config self.old.world.flat
-            (Choice.Turn actor.entry.who.thread true) }
+        ensures state { self.new ≡ after_choice self.old
+            (choice_of_thread self.old.config self.old.world.flat actor.entry.who.thread) }
+        ensures choice { result.choice
+            ≡ choice_of_thread self.old.config self.old.world.flat actor.entry.who.thread }
+        ensures reply { result.reply
+            ≡ reply_to self.old.config self.old.world.flat result.choice }
         ensures journal { journal.new ≡ noted journal.old (map item.Unit
-            (unit_lines self.old.config self.old.world.flat self.old.world.unit
-            (Choice.Turn actor.entry.who.thread true))) }
+            (unit_lines self.old.config self.old.world.flat self.old.world.unit result.choice)) }
     {
-        let t = actor.who.thread.0 as usize;
+        let who = actor.who.thread;
+        let t = who.0 as usize;
         let mut thread = self.threads.at(t);
-        let next = Next::of(actor.program, &thread, actor.due_interrupt(&self.kernel));
-        self.unit.enter(actor.program.home, journal);
-        let granted = self.unit.decide_next(next, self.kernel.owners(), journal);
-        let reply = actor.turn(&mut self.kernel, &mut thread, next, granted);
-        self.unit.settle(empties_slots(next, reply), journal);
+        let next = actor.next(&self.kernel, &thread);
+        let deed = Deed::of_script(actor, &self.kernel, next);
+        let reply = act(
+            &mut self.kernel,
+            &mut self.unit,
+            actor,
+            &mut thread,
+            next,
+            deed,
+            journal,
+        );
         self.threads.put(t, thread);
-        reply
+        let choice = deed.choice(who);
+        Entry { choice, reply }
     }
 
-    // The unit's lines of a turn of a thread, and what it replies.
-    fn reply(&mut self, cfg: &Config, t: ThreadId, journal: &mut Journal) -> Reply
+    // What a script's word has a thread do, with the unit's lines, and its entry.
+    fn event(&mut self, cfg: &Config, t: ThreadId, journal: &mut Journal) -> Entry
         requires config { self.old.config ≡ cfg.now }
         requires room { event_room self.old.world t.0 ≤ journal.old.room }
-        ensures state { self.new ≡ after_choice self.old (Choice.Turn t true) }
-        ensures reply { result ≡ reply_to self.old.config self.old.world.flat (Choice.Turn t true) }
+
+        ensures state { self.new ≡ after_choice self.old
+            (choice_of_thread self.old.config self.old.world.flat t) }
+        ensures choice { result.choice ≡ choice_of_thread self.old.config self.old.world.flat t }
+        ensures reply { result.reply
+            ≡ reply_to self.old.config self.old.world.flat result.choice }
         ensures journal { journal.new ≡ noted journal.old (map item.Unit
-            (unit_lines self.old.config self.old.world.flat self.old.world.unit
-            (Choice.Turn t true))) }
+            (unit_lines self.old.config self.old.world.flat self.old.world.unit result.choice)) }
     {
         match Actor::of(cfg, &self.threads, t, true) {
-            Some(actor) => self.act(actor, journal),
-            None => Reply::Ended,
+            Some(actor) => self.take(actor, journal),
+            None => Entry {
+                choice: Choice::Turn { t, room: true },
+                reply: Reply::Ended,
+            },
         }
     }
 
-    /// A turn of a thread: the unit's lines, and then its entry.
-    pub fn turn(&mut self, cfg: &Config, t: ThreadId, journal: &mut Journal)
+    /// The event that a script's word for a thread stands for: the unit's lines, and then its entry.
+    pub fn step(&mut self, cfg: &Config, t: ThreadId, journal: &mut Journal)
         requires config { self.old.config ≡ cfg.now }
         requires room { event_room self.old.world t.0 ≤ journal.old.room }
-        ensures state { self.new ≡ after_choice self.old (Choice.Turn t true) }
+
+        ensures state { self.new ≡ after_choice self.old
+            (choice_of_thread self.old.config self.old.world.flat t) }
         ensures journal { journal.new ≡ noted journal.old
-            (event_items self.old.config self.old.world (Choice.Turn t true)) }
+            (event_items self.old.config self.old.world
+            (choice_of_thread self.old.config self.old.world.flat t)) }
     {
-        let reply = self.reply(cfg, t, journal);
-        let choice = Choice::Turn { t, room: true };
+        let entry = self.event(cfg, t, journal);
+        journal.note(Logged::Core(entry));
+    }
+
+    /// A ring of a line that a box owns: its entry alone.
+    pub fn ring(&mut self, line: Line, journal: &mut Journal)
+        requires owned { is_owned_line self.old.config line.0 ≡ true }
+        requires room { 1 ≤ journal.old.room }
+
+        ensures state { self.new ≡ after_choice self.old (Choice.Ring line 0) }
+        ensures journal { journal.new ≡ noted journal.old
+            (event_items self.old.config self.old.world (Choice.Ring line 0)) }
+    {
+        self.kernel.ring(line);
+        let choice = Choice::Ring { line, by: 0 };
+        let reply = Reply::Done;
         journal.note(Logged::Core(Entry { choice, reply }));
     }
 }

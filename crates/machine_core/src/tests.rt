@@ -3,9 +3,9 @@ ghost use Rattle.machine_core.specs.Fixture as fixture;
 
 use crate::Machine;
 use flat_model::{
-    Board, BoxId, BoxPart, Choice, Config, Drive, End, Entry, FlatState, Flaw, Instr, Item, Items,
-    Kind, Log, Logged, Mode, OutOfMemory, Pair, Range, Reply, Rights, Text, ThreadId, ThreadPart,
-    UnitLine, Verdict, flat_step,
+    Board, BoxId, BoxPart, Choice, Config, Drive, End, Entry, FlatState, Flaw, Instr, IrqPart,
+    Item, Items, Kind, Line, Log, Logged, Mode, OutOfMemory, Pair, Range, Reply, Rights, RpcGate,
+    Text, ThreadId, ThreadPart, UnitLine, Verdict, Want, flat_step,
 };
 use std::alloc::Global;
 use std::test::Fail;
@@ -33,6 +33,22 @@ const GRANT: Item = Item {
     rights: Rights::READ_WRITE,
 };
 
+const LINE: Line = Line(5);
+
+const IRQ: IrqPart = IrqPart {
+    line: LINE,
+    handler: 0,
+};
+
+// A gateway to the second box, for the first.
+const GATE: RpcGate = RpcGate {
+    target: BoxId(1),
+    function: 7,
+    callers: 1,
+};
+
+const RING: Choice = Choice::Ring { line: LINE, by: 0 };
+
 // The threads that step, in order.
 const STEPS: [u8; 11] = [0, 0, 2, 2, 0, 1, 1, 3, 3, 3, 0];
 
@@ -56,8 +72,9 @@ fn part(
     base: u32,
     first: u8,
     grants: &[Item],
+    irqs: &[IrqPart],
 ) -> Result<BoxPart, OutOfMemory>
-    ensures { IfOk result (λ part. part ≡ fixture.part name.now base first grants.now) }
+    ensures { IfOk result (λ part. part ≡ fixture.part name.now base first grants.now irqs.now) }
 {
     let own = Range { base, len: 256 };
     let flash = Item {
@@ -80,7 +97,7 @@ fn part(
         server: ThreadId(first),
         items: Items::from_vec(items),
         grants: Items::from_vec(granted),
-        irqs: Items::from_vec(Vec::new(alloc)),
+        irqs: Items::from_vec(Vec::from_slice(alloc, irqs)?),
     })
 }
 
@@ -94,8 +111,8 @@ fn thread(alloc: Global, home: u8, program: &[Instr], steps: u32) -> Result<Thre
     })
 }
 
-// Two boxes of two threads: `a` stores and loads in its own memory and by its grant, `b` reads of
-// `a` and runs out of steps.
+// Two boxes of two threads: `a` stores and loads in its own memory and by its grant, and comes to a
+// call; `b` reads of `a` and runs out of steps.
 fn two_boxes(alloc: Global) -> Result<Config, OutOfMemory>
     ensures { IfOk result (λ config. config ≡ fixture.two_boxes) }
 {
@@ -105,11 +122,15 @@ fn two_boxes(alloc: Global) -> Result<Config, OutOfMemory>
         Instr::Load32(1, 0, 4),
         Instr::Halt,
     ];
-    let using = [Instr::Set(0, 0x4000_0020), Instr::Load32(3, 0, 0xDC)];
+    let using = [
+        Instr::Set(0, 0x4000_0020),
+        Instr::Load32(3, 0, 0xDC),
+        Instr::RpcCall(1, 0),
+    ];
     let prying = [Instr::Set(0, 0x2000_0000), Instr::Load32(1, 0, 0)];
     let turning = [Instr::Set(1, 1), Instr::Jump(0)];
-    let a = part(alloc, "a", 0x2000_0000, 0, &[GRANT])?;
-    let b = part(alloc, "b", 0x2000_0100, 2, &[])?;
+    let a = part(alloc, "a", 0x2000_0000, 0, &[GRANT], &[IRQ])?;
+    let b = part(alloc, "b", 0x2000_0100, 2, &[], &[])?;
     let boxes = vec![in alloc; a, b]?;
     let first = thread(alloc, 0, &storing, 100)?;
     let second = thread(alloc, 0, &using, 100)?;
@@ -122,7 +143,7 @@ fn two_boxes(alloc: Global) -> Result<Config, OutOfMemory>
         boxes: Items::from_vec(boxes),
         threads: Items::from_vec(threads),
         registers: Items::from_vec(Vec::new(alloc)),
-        gateways: Items::from_vec(Vec::new(alloc)),
+        gateways: Items::from_vec(vec![in alloc; GATE]?),
         devices: Items::from_vec(Vec::new(alloc)),
         script: Items::from_vec(Vec::new(alloc)),
     })
@@ -131,12 +152,23 @@ fn two_boxes(alloc: Global) -> Result<Config, OutOfMemory>
 // A step of a thread that is there, and has not ended where no extra event may come.
 fn step(machine: &mut Machine, t: ThreadId)
     requires { machine.old.drive ≡ Drive.Script }
-    ensures { machine.new.drive ≡ Drive.Script }
+    ensures drive { machine.new.drive ≡ Drive.Script }
+    ensures config { machine.new.config ≡ machine.old.config }
 {
     let is_there = (t.0 as usize) < machine.config().threads.len();
     let may_step = !machine.ended(t) || machine.extra() > 0;
     if is_there && may_step {
         machine.script_step(t);
+    }
+}
+
+// A ring of the first box's line, where an extra event may come.
+fn ring(machine: &mut Machine)
+    requires drive { machine.old.drive ≡ Drive.Script }
+    requires config { machine.old.config ≡ fixture.two_boxes }
+{
+    if machine.extra() > 0 {
+        machine.ring_plain(LINE);
     }
 }
 
@@ -163,17 +195,18 @@ fn access(kind: Kind, at: u32, verdict: Verdict) -> Logged {
     })
 }
 
-// The machine of the two boxes after all steps.
+// The machine of the two boxes after all steps and a ring.
 fn stepped_machine(alloc: Global) -> Result<Machine, OutOfMemory> {
     let config = two_boxes(alloc)?;
-    let mut machine = Machine::boot(alloc, config, Drive::Script, 1)?;
+    let mut machine = Machine::boot(alloc, config, Drive::Script, 2)?;
     for t in STEPS {
         step(&mut machine, ThreadId(t));
     }
+    ring(&mut machine);
     Ok(machine)
 }
 
-fn wanted_items() -> [Logged; 21] {
+fn wanted_items() -> [Logged; 22] {
     let fault = Reply::Fault {
         why: Flaw::Daccviol,
         at: 0x2000_0000,
@@ -204,6 +237,10 @@ fn wanted_items() -> [Logged; 21] {
         turn(3, Reply::Ended),
         switch(0),
         turn(0, Reply::Halted),
+        Logged::Core(Entry {
+            choice: RING,
+            reply: Reply::Done,
+        }),
     ]
 }
 
@@ -227,7 +264,21 @@ fn wanted_ends() -> [End; 4] {
 #[test]
 fn two_boxes_run_by_the_script(rt: HostRuntime) -> Result<(), Fail> {
     let machine = stepped_machine(rt.alloc())?;
-    assert_eq!(rt; machine.extra(), 0, "one event of a thread that had ended");
+    assert_eq!(rt;
+        machine.extra(),
+        0,
+        "one event of a thread that had ended, and a ring"
+    );
+    assert_eq!(rt;
+        machine.wants(ThreadId(1)),
+        Want::Room(BoxId(1)),
+        "a call of the second box"
+    );
+    assert_eq!(rt;
+        machine.wants(ThreadId(0)),
+        Want::Plain,
+        "nothing, for it has ended"
+    );
     let (config, log) = machine.into_log();
     assert_eq!(rt; config.threads.len(), 4);
     assert_eq!(rt; log.items.as_slice(), wanted_items().as_slice());
@@ -258,6 +309,7 @@ fn evaluated_replies(alloc: Global) -> Result<Vec<Reply>, OutOfMemory> {
         };
         replies.push(flat_step(&mut state, &config, &choice))?;
     }
+    replies.push(flat_step(&mut state, &config, &RING))?;
     Ok(replies)
 }
 

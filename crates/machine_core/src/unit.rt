@@ -13,7 +13,7 @@ ghost use Rattle.flat_model.specs.Next.{touch_in};
 ghost use Rattle.flat_model.specs.Pages.{HasOwners};
 
 use crate::journal::Journal;
-use flat_model::{Access, BoxId, Config, Items, Logged, Next, OutOfMemory, UnitLine, Verdict};
+use flat_model::{Access, BoxId, Config, Logged, Next, OutOfMemory, UnitLine, Verdict};
 use region_rotation::Rotator;
 use std::alloc::Global;
 use std::marker::Model;
@@ -85,11 +85,11 @@ impl ProtectionUnit {
     fn rotate(
         &mut self,
         access: Access,
-        owners: &Items<Option<BoxId>>,
+        owners: &Vec<Option<BoxId>>,
         journal: &mut Journal,
     ) -> Verdict
         requires entered { IsSome self.old.unit.last }
-        requires owners { HasOwners self.old.config.board.heap owners.now }
+        requires owners { HasOwners self.old.config.board.heap owners.now.items }
         requires room { 0 < journal.old.room }
         ensures room { journal.old.room ≤ journal.new.room + 1 }
         ensures verdict { result ≡ decision self.new.unit.pairs access.at access.kind }
@@ -97,22 +97,19 @@ impl ProtectionUnit {
             → self.old.unit.last ≡ Some b → slice_get self.old.config.boxes b.0 ≡ Some part
             → self.new ≡ record self.old {
               unit = unit_words.rotated self.old.unit
-                  (unit_words.rotating_pair (plan_of self.old.config owners.now b.0 part)
+                  (unit_words.rotating_pair (plan_of self.old.config owners.now.items b.0 part)
                   self.old.unit access);
             } }
         ensures journal { (b : BoxId) (part : BoxPart)
             → self.old.unit.last ≡ Some b → slice_get self.old.config.boxes b.0 ≡ Some part
             → journal.new ≡ noted journal.old (map item.Unit (unit_words.rotate_lines self.old.unit
-            (unit_words.rotating_pair (plan_of self.old.config owners.now b.0 part)
+            (unit_words.rotating_pair (plan_of self.old.config owners.now.items b.0 part)
             self.old.unit access))) }
     {
         match self.rotator.decide(access.at, access.kind) {
             Verdict::Granted(slot) => Verdict::Granted(slot),
             Verdict::Denied => {
-                let Some(rotated) = self
-                    .rotator
-                    .recover(access.at, access.kind, owners.as_vec())
-                else {
+                let Some(rotated) = self.rotator.recover(access.at, access.kind, owners) else {
                     return Verdict::Denied;
                 };
                 journal.note(Logged::Unit(UnitLine::Rotate {
@@ -126,26 +123,21 @@ impl ProtectionUnit {
 
     // Whether the unit grants an access of the box that was entered. The first pair of the box's plan that serves it
     // rotates in where it is denied.
-    fn decide(
-        &mut self,
-        access: Access,
-        owners: &Items<Option<BoxId>>,
-        journal: &mut Journal,
-    ) -> bool
+    fn decide(&mut self, access: Access, owners: &Vec<Option<BoxId>>, journal: &mut Journal) -> bool
         requires entered { IsSome self.old.unit.last }
-        requires owners { HasOwners self.old.config.board.heap owners.now }
+        requires owners { HasOwners self.old.config.board.heap owners.now.items }
         requires room { 1 < journal.old.room }
         ensures granted { result ≡ is_granted (decision self.new.unit.pairs access.at access.kind) }
         ensures unit { (b : BoxId) (part : BoxPart)
             → self.old.unit.last ≡ Some b → slice_get self.old.config.boxes b.0 ≡ Some part
             → self.new ≡ record self.old {
               unit = unit_words.accessed
-                  (plan_of self.old.config owners.now b.0 part) self.old.unit (Some access);
+                  (plan_of self.old.config owners.now.items b.0 part) self.old.unit (Some access);
             } }
         ensures journal { (b : BoxId) (part : BoxPart)
             → self.old.unit.last ≡ Some b → slice_get self.old.config.boxes b.0 ≡ Some part
             → journal.new ≡ noted journal.old (map item.Unit
-            (unit_words.access_lines (plan_of self.old.config owners.now b.0 part)
+            (unit_words.access_lines (plan_of self.old.config owners.now.items b.0 part)
             self.old.unit (Some access))) }
     {
         let verdict = self.rotate(access, owners, journal);
@@ -162,11 +154,11 @@ impl ProtectionUnit {
     pub fn decide_next(
         &mut self,
         next: Next,
-        owners: &Items<Option<BoxId>>,
+        owners: &Vec<Option<BoxId>>,
         journal: &mut Journal,
     ) -> bool
         requires entered { IsSome self.old.unit.last }
-        requires owners { HasOwners self.old.config.board.heap owners.now }
+        requires owners { HasOwners self.old.config.board.heap owners.now.items }
         requires room { 1 < journal.old.room }
         ensures granted { result ≡ option_map_or (λ access. is_granted
             (decision self.new.unit.pairs access.at access.kind)) (touch_in next) false }
@@ -174,12 +166,12 @@ impl ProtectionUnit {
             → self.old.unit.last ≡ Some b → slice_get self.old.config.boxes b.0 ≡ Some part
             → self.new ≡ record self.old {
               unit = unit_words.accessed
-                  (plan_of self.old.config owners.now b.0 part) self.old.unit (touch_in next);
+                  (plan_of self.old.config owners.now.items b.0 part) self.old.unit (touch_in next);
             } }
         ensures journal { (b : BoxId) (part : BoxPart)
             → self.old.unit.last ≡ Some b → slice_get self.old.config.boxes b.0 ≡ Some part
             → journal.new ≡ noted journal.old (map item.Unit
-            (unit_words.access_lines (plan_of self.old.config owners.now b.0 part)
+            (unit_words.access_lines (plan_of self.old.config owners.now.items b.0 part)
             self.old.unit (touch_in next))) }
     {
         match next.touch() {

@@ -15,9 +15,8 @@ use Rattle.flat_model.specs.Log.{IsNamed, choices_of}
 use Rattle.flat_model.specs.OneLog.{log_of_choices, script_log}
 use Rattle.flat_model.specs.Run.{ends_of, opening_state, replies_to_all, state_after_all}
 use Rattle.flat_model.specs.Script.{choice_of_word, choices_from, script_choices}
-use Rattle.flat_model.specs.Sound.{IsScriptWord, IsSound, is_ring_word}
+use Rattle.flat_model.specs.Sound.{IsScriptWord, IsSound}
 use Rattle.flat_model.specs.Step.{state_after}
-use Rattle.flat_model.specs.Today.{RunsToday, thread_runs_today}
 use Rattle.flat_model.specs.Trace.{opening_world, trace_of}
 use Rattle.flat_model.specs.UnitRun.{lines_of_run, opening_unit}
 use Rattle.flat_model.specs.Want.{fits}
@@ -26,29 +25,33 @@ use Rattle.flat_model.proofs.LegalLogs.{legal-one_log}
 use Rattle.flat_model.proofs.NamedLogs.{legal-named}
 use Rattle.flat_model.proofs.ReadyWorlds.{IsWorldReady-opening}
 use Rattle.flat_model.proofs.TraceLemmas.{choices_of-trace, ends_with_entry-trace, lines_of-trace, replies_of-trace, trace_of-woven}
-use Rattle.flat_model.proofs.WantLemmas.{choice-today, fits-turn}
+use Rattle.machine_core.specs.Kept.{HasCallers}
+use Rattle.machine_core.proofs.CallerLemmas.{step-callers}
+use Rattle.machine_core.proofs.ScriptLemmas.{script-fits}
 use Rattle.uvisor_run.specs.Headline.{IsTold}
 use Rattle.uvisor_run.specs.Output.{log_output}
-use Rattle.uvisor_run.specs.Runnable.{is_runnable}
-use Rattle.uvisor_run.proofs.Scripts.{thread_word, word_by}
+use Rattle.uvisor_run.proofs.Scripts.{ring_word, thread_word}
 
 -- ---- the log of a script
 
--- a thread's word fits
-word_fits : (cfg : Config) (f : Flat) (t : ThreadId) → RunsToday cfg → IsScriptWord cfg (word.Thread t) → fits cfg f (choice_of_word cfg f (word.Thread t)) ≡ true
-word_fits cfg f t today below =
-    ap (fits cfg f) (thread_word cfg f (word.Thread t) t refl ∙ choice-today cfg f t today)
-    ∙ fits-turn cfg f t today
-    ∙ word_by cfg (word.Thread t) refl below
+-- at the start there is no call
+no_callers : (cfg : Config) → HasCallers cfg (opening_state cfg).shared.calls
+unfolding opening_state
+no_callers cfg = tt
 
-words_fit : (cfg : Config) (f : Flat) (ws : List ScriptWord) → RunsToday cfg → list_all (λ w. not (is_ring_word w)) ws ≡ true → AllByRecursion (IsScriptWord cfg) ws → all_fit cfg f (choices_from cfg f ws) ≡ true
-words_fit cfg f [] today plain below = refl
-words_fit cfg f (word.Thread t ∷ ws) today plain below =
-    let c : Choice = choice_of_word cfg f (word.Thread t) in
+-- a word's event fits where the calls are of threads of the configuration
+word_fits : (cfg : Config) (f : Flat) (w : ScriptWord) → HasCallers cfg f.shared.calls → IsScriptWord cfg w → fits cfg f (choice_of_word cfg f w) ≡ true
+word_fits cfg f (word.Thread t) known below =
+    ap (fits cfg f) (thread_word cfg f (word.Thread t) t refl) ∙ script-fits cfg f t below known
+word_fits cfg f (word.Ring line) known owned = ap (fits cfg f) (ring_word cfg f (word.Ring line) line refl) ∙ owned
+
+words_fit : (cfg : Config) (f : Flat) (ws : List ScriptWord) → HasCallers cfg f.shared.calls → AllByRecursion (IsScriptWord cfg) ws → all_fit cfg f (choices_from cfg f ws) ≡ true
+words_fit cfg f [] known below = refl
+words_fit cfg f (w ∷ ws) known below =
+    let c : Choice = choice_of_word cfg f w in
     and_from (fits cfg f c) (all_fit cfg (state_after cfg f c) (choices_from cfg (state_after cfg f c) ws))
-    (word_fits cfg f t today below.0)
-    (words_fit cfg (state_after cfg f c) ws today plain below.1)
-words_fit cfg f (word.Ring line ∷ ws) today plain below = absurd (false≢true plain)
+    (word_fits cfg f w known below.0)
+    (words_fit cfg (state_after cfg f c) ws (step-callers cfg f c known) below.1)
 
 -- the log of choices as their trace
 abbrev trace_log : Config → List Choice → Log
@@ -75,12 +78,11 @@ trace_legal cfg cs sound fit =
       agree = trace-agrees cfg (opening_world cfg) cs sound (IsWorldReady-opening cfg);
     }
 
--- the script's log is legal, where the machine runs the configuration
-pub script_legal : (cfg : Config) → IsSound cfg → is_runnable cfg ≡ true → IsLegal cfg (script_log cfg)
-script_legal cfg sound runs =
-    let parts = and_parts (list_all thread_runs_today cfg.threads) (list_all (λ w. not (is_ring_word w)) cfg.script) runs in
+-- the script's log is legal
+pub script_legal : (cfg : Config) → IsSound cfg → IsLegal cfg (script_log cfg)
+script_legal cfg sound =
     subst (IsLegal cfg) (trace_is cfg (script_choices cfg))
-    (trace_legal cfg (script_choices cfg) sound (words_fit cfg (opening_state cfg) cfg.script parts.0 parts.1 sound.script))
+    (trace_legal cfg (script_choices cfg) sound (words_fit cfg (opening_state cfg) cfg.script (no_callers cfg) sound.script))
 
 -- the script's log has the script's choices
 pub script_chosen : (cfg : Config) → choices_of (script_log cfg).items ≡ script_choices cfg

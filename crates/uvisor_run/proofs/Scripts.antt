@@ -4,8 +4,10 @@ use Rattle.std.specs.List.{list_all, slice_get}
 use Rattle.std.proofs.lemmas.Bool.{and_parts}
 use Rattle.std.proofs.lemmas.Bool.Decides.{nat_tests}
 use Rattle.std.proofs.lemmas.List.{drop_all}
+use Rattle.addr_base.specs.declared.identity.Line.{Line}
 use Rattle.addr_base.specs.declared.identity.ThreadId.{ThreadId}
 use Rattle.flat_model.specs.declared.events.Choice.{Choice}
+use Rattle.flat_model.specs.declared.events.Choice.TheVariants as choice
 use Rattle.flat_model.specs.declared.events.Logged.{Logged}
 use Rattle.flat_model.specs.declared.parts.Config.{Config}
 use Rattle.flat_model.specs.declared.parts.ScriptWord.{ScriptWord}
@@ -13,36 +15,26 @@ use Rattle.flat_model.specs.declared.parts.ScriptWord.TheVariants as word
 use Rattle.flat_model.specs.declared.states.Flat.{Flat}
 use Rattle.flat_model.specs.Log.{choices_of}
 use Rattle.flat_model.specs.Script.{choice_of_thread, choice_of_word, choices_from, script_choices}
-use Rattle.flat_model.specs.Sound.{IsScriptWord, IsSound, is_ring_word}
+use Rattle.flat_model.specs.Sound.{IsScriptWord, IsSound}
 use Rattle.flat_model.specs.Step.{state_after}
-use Rattle.flat_model.specs.Today.{RunsToday, thread_runs_today}
 use Rattle.flat_model.specs.Trace.{World, world_after, world_reached}
 use Rattle.flat_model.proofs.Elements.{each-get}
-use Rattle.flat_model.proofs.TodayLemmas.{list_all-get}
 use Rattle.machine_core.specs.View.{MachineView, with_event, world_of}
 use Rattle.machine_core.proofs.MachineLemmas.{choices-more, reached-more}
-use Rattle.uvisor_run.specs.Runnable.{is_runnable}
-use Rattle.uvisor_run.specs.Scripting.{runs_word}
 
 -- what a thread's word stands for
 pub thread_word : (cfg : Config) (f : Flat) (w : ScriptWord) (t : ThreadId) → w ≡ word.Thread t → choice_of_word cfg f w ≡ choice_of_thread cfg f t
 unfolding choice_of_word
 thread_word cfg f w t is = rw is refl
 
--- a configuration that is runnable runs today
-pub runnable_today : (cfg : Config) → is_runnable cfg ≡ true → RunsToday cfg
-runnable_today cfg runs = (and_parts (list_all thread_runs_today cfg.threads) (list_all (λ w. not (is_ring_word w)) cfg.script) runs).0
+-- what a line's word stands for
+pub ring_word : (cfg : Config) (f : Flat) (w : ScriptWord) (line : Line) → w ≡ word.Ring line → choice_of_word cfg f w ≡ choice.Ring line 0
+unfolding choice_of_word
+ring_word cfg f w line is = rw is refl
 
--- a word that is no ring names a thread
-pub word_by : (cfg : Config) (w : ScriptWord) → not (is_ring_word w) ≡ true → IsScriptWord cfg w → runs_word cfg w ≡ true
-word_by cfg (word.Thread t) plain below = grind (arith, nat_tests)
-word_by cfg (word.Ring line) plain below = absurd (cc)
-
--- each word of a script that is run names a thread
-pub script_word : (cfg : Config) (i : ℕ) (w : ScriptWord) → IsSound cfg → is_runnable cfg ≡ true → slice_get cfg.script i ≡ Some w → runs_word cfg w ≡ true
-script_word cfg i w sound runs at =
-    let parts = and_parts (list_all thread_runs_today cfg.threads) (list_all (λ w. not (is_ring_word w)) cfg.script) runs in
-    word_by cfg w (list_all-get (λ w. not (is_ring_word w)) cfg.script i w parts.1 at) (each-get (IsScriptWord cfg) cfg.script i w sound.script at)
+-- each word of a script names a thread, or a line that a box owns
+pub script_word : (cfg : Config) (i : ℕ) (w : ScriptWord) → IsSound cfg → slice_get cfg.script i ≡ Some w → IsScriptWord cfg w
+script_word cfg i w sound at = each-get (IsScriptWord cfg) cfg.script i w sound.script at
 
 -- what has happened and what the words from this place on stand for are the script's choices
 abbrev pub IsOnScript : MachineView → ℕ → Type 0

@@ -10,13 +10,13 @@ use Rattle.flat_model.specs.declared.parts.Config.{Config}
 use Rattle.flat_model.specs.declared.refusals.Refused.{Refused}
 use Rattle.flat_model.specs.declared.refusals.Refused.TheVariants as refused
 use Rattle.flat_model.specs.OneLog.{script_log}
+use Rattle.box_isolation.proofs.WholeIsolation.{isolated}
 use Rattle.io_edge.specs.Counts.{Rose, next_count}
 use Rattle.io_edge.specs.Taken.{Takes}
 use Rattle.uvisor_run.specs.declared.commands.Command.{Command}
 use Rattle.uvisor_run.specs.declared.commands.Command.TheVariants.{Check, Script}
 use Rattle.uvisor_run.specs.Accept.{INPUT_LIMIT, config_of}
 use Rattle.uvisor_run.specs.RefusalText.{refusal_line}
-use Rattle.uvisor_run.specs.Runnable.{is_runnable}
 use Rattle.uvisor_run.specs.Headline.{HasConfig, IsAnswered, IsBroken, IsCommandRun, IsDone, IsReadToEnd, IsScriptRun, IsTold, IsToldInMemory, WereLeft}
 use Rattle.uvisor_run.specs.Output.{Output, log_output, output_by, output_for, output_of, refused_output}
 use Rattle.uvisor_run.proofs.Runs.{script_chosen, script_legal}
@@ -40,17 +40,6 @@ refused_memory due written count status five = record {
   memory = λ _. refl;
   faults = record { rose = λ four. absurd (omega (arith, five, four)); kept = λ _. refl };
 }
-
--- a script that the machine runs
-pub runnable_told : (cfg : Config) (written now : Option (List ℕ)) (before after status : ℕ) → is_runnable cfg ≡ true → IsToldInMemory (log_output cfg (script_log cfg)) written now before after status → IsToldInMemory (output_for Script cfg) written now before after status
-runnable_told cfg written now before after status runs told =
-    subst (λ b. IsToldInMemory (if b then log_output cfg (script_log cfg) else refused_output refused.NotYet) written now before after status) (sym runs) told
-
--- a script that it does not run
-pub unrunnable_told : (cfg : Config) (written now : Option (List ℕ)) (before after status : ℕ) → is_runnable cfg ≡ false → IsTold (refused_output refused.NotYet) written now before after status → IsToldInMemory (output_for Script cfg) written now before after status
-unrunnable_told cfg written now before after status runs told =
-    subst (λ b. IsToldInMemory (if b then log_output cfg (script_log cfg) else refused_output refused.NotYet) written now before after status) (sym runs)
-    (told_in_memory (refused_output refused.NotYet) written now before after status (omega arith) told)
 
 -- what `check` writes
 pub check_told : (cfg : Config) (written now : Option (List ℕ)) (before after status : ℕ) → IsTold (output_for Check cfg) written now before after status → IsToldInMemory (output_for Check cfg) written now before after status
@@ -82,11 +71,7 @@ told_known due written now before after status low told = by_test (nat_eq status
 
 output_low : (command : Command) (cfg : Config) → (output_for command cfg).status ≤ 1
 output_low Check cfg = omega arith
-output_low Script cfg = by_test (is_runnable cfg)
-  where
-    by_test : (b : Bool) → (if b then log_output cfg (script_log cfg) else refused_output refused.NotYet).status ≤ 1
-    by_test true = omega arith
-    by_test false = omega arith
+output_low Script cfg = omega arith
 
 -- what is told of a configuration is done, or a write failed, or memory was refused
 pub config_known : (command : Command) (cfg : Config) (written now : Option (List ℕ)) (before after status : ℕ) → IsToldInMemory (output_for command cfg) written now before after status → (status ≤ 1) ⊎ ((status ≡ 4) ⊎ (status ≡ 5))
@@ -102,24 +87,13 @@ config_known command cfg written now before after status told = by_tests (nat_eq
 
 -- ---- a script's run
 
--- the machine runs a configuration whose script gives status 0
-runs_of : (cfg : Config) (status : ℕ) → status ≡ 0 → status ≡ (output_for Script cfg).status → is_runnable cfg ≡ true
-runs_of cfg status done due = by_test (is_runnable cfg) refl due
-  where
-    by_test : (b : Bool) → is_runnable cfg ≡ b → status ≡ (if b then log_output cfg (script_log cfg) else refused_output refused.NotYet).status → is_runnable cfg ≡ true
-    by_test true is due = is
-    by_test false is due = absurd (omega (arith, done, due))
-
 -- a script was run
 pub script_run_of : (bytes : List ℕ) (left left_now written now : Option (List ℕ)) (status : ℕ) → WereLeft left bytes → IsReadToEnd left_now → HasConfig bytes → status ≡ 0 → IsDone (output_of Script bytes) written now status → IsScriptRun left left_now written now
 unfolding output_of
 script_run_of bytes left left_now written now status were_left to_the_end has done told =
     let cfg : Config = has.config in
     let by_config : output_of Script bytes ≡ output_for Script cfg = ap (output_by Script) has.accepted in
-    let runs : is_runnable cfg ≡ true = runs_of cfg status done (told.status_due ∙ ap (λ (o : Output). o.status) by_config) in
-    let due : output_of Script bytes ≡ log_output cfg (script_log cfg) =
-    by_config ∙ ap (λ b. if b then log_output cfg (script_log cfg) else refused_output refused.NotYet) runs in
-    let legal = script_legal cfg has.sound runs in
+    let legal = script_legal cfg has.sound in
     record {
       bytes = bytes;
       config = cfg;
@@ -131,7 +105,8 @@ script_run_of bytes left left_now written now status were_left to_the_end has do
       flat_run = legal.flat;
       unit_run = legal.unit;
       grants = legal.agree;
-      text = told.text_due ∙ ap (λ (o : Output). append_known written o.text) due;
+      isolation = isolated cfg (script_log cfg) has.sound legal;
+      text = told.text_due ∙ ap (λ (o : Output). append_known written o.text) by_config;
     }
 
 -- all bytes that were left were read

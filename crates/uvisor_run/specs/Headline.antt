@@ -1,6 +1,7 @@
 -- What is known of a run of the program, sentence by sentence.
 use Rattle.std.specs.Prelude.{◌≡◌, ◌≢◌, ◌≤◌, ◌⊎◌, ℕ, IfSome, Option, List, Ok}
 use Rattle.std.specs.Io.KnownBytes.{IsAtEnd, append_known}
+use Rattle.box_isolation.specs.Isolation.{Isolated}
 use Rattle.io_edge.specs.Counts.{IsCounted}
 use Rattle.io_edge.specs.Written.{WrotePart}
 use Rattle.flat_model.specs.declared.logs.Log.{Log}
@@ -61,7 +62,8 @@ pub record IsAccepted (left left_now : Option (List ℕ)) : Type 0 where
   pub config : Config
   pub accepted : config_of bytes ≡ Ok config
 
--- The script of an accepted input was run: what was written is the text of its one log.
+-- The script of an accepted input was run: what was written is the text of its one log, and each answer that a box got is
+-- a function of its own part and of what reached it.
 pub record IsScriptRun (left left_now written written_now : Option (List ℕ)) : Type 0 where
   pub bytes : List ℕ
   pub config : Config
@@ -73,6 +75,7 @@ pub record IsScriptRun (left left_now written written_now : Option (List ℕ)) :
   pub flat_run : IsFlatRun config log
   pub unit_run : IsUnitRun config log
   pub grants : IsAgreed log
+  pub isolation : Isolated config log
   pub text : written_now ≡ append_known written (text_of config log)
 
 -- the bytes are those of a sound configuration

@@ -5,4 +5,3 @@ pub mod Headline
 pub mod Laws
 pub mod Output
 pub mod RefusalText
-pub mod Runnable

@@ -4,10 +4,8 @@ use Rattle.std.specs.Str.{bytes_eq}
 use Rattle.flat_model.specs.declared.logs.Log.{Log}
 use Rattle.flat_model.specs.declared.parts.Config.{Config}
 use Rattle.flat_model.specs.declared.refusals.Refused.{Refused}
-use Rattle.flat_model.specs.declared.refusals.Refused.TheVariants as refused
 use Rattle.flat_model.specs.OneLog.{script_log}
 use Rattle.flat_model.specs.Text.{text_of}
-use Rattle.uvisor_run.specs.Runnable.{is_runnable}
 use Rattle.uvisor_run.specs.declared.commands.Command.{Command}
 use Rattle.uvisor_run.specs.declared.commands.Command.TheVariants.{Check, Script}
 use Rattle.uvisor_run.specs.Accept.{config_of}
@@ -49,8 +47,7 @@ refused_output refusal = record { status = 1; text = refusal_line refusal }
 -- what a command is due to write of a configuration
 abbrev pub output_for : Command → Config → Output
 output_for Check cfg = record { status = 0; text = check_text cfg }
-output_for Script cfg =
-    if is_runnable cfg then log_output cfg (script_log cfg) else refused_output refused.NotYet
+output_for Script cfg = log_output cfg (script_log cfg)
 
 -- what a command is due to write of an input with this answer
 abbrev pub output_by : Command → Result Config Refused → Output

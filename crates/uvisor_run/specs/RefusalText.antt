@@ -46,7 +46,6 @@ at_grant name i j = name ∷ place_in_box i (codes "grant") j
 abbrev pub refusal_words : Refused → List (List ℕ)
 refusal_words refused.TooLong = codes "TooLong" ∷ []
 refusal_words refused.NotToml = codes "NotToml" ∷ []
-refusal_words refused.NotYet = codes "NotYet" ∷ []
 refusal_words (refused.UnknownKey s) = codes "UnknownKey" ∷ spot_words s
 refusal_words (refused.MissingKey s key) = at_key (codes "MissingKey") s key
 refusal_words (refused.BadValue s key) = at_key (codes "BadValue") s key

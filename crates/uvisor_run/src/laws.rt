@@ -8,7 +8,6 @@ ghost use Rattle.flat_model.specs.Run.{opening_state};
 ghost use Rattle.flat_model.specs.Script.{script_choices};
 ghost use Rattle.flat_model.specs.Sound.{IsSound};
 ghost use Rattle.uvisor_run.specs.Laws.{are_granted_as_held};
-ghost use Rattle.uvisor_run.specs.Runnable.{is_runnable};
 
 /// Each access of a legal log is granted exactly where the acting box holds its bytes in the state
 /// that the choices before it reached: whatever rotated in or was thrown out before makes no
@@ -30,11 +29,10 @@ pub fn a_legal_log_is_the_log_of_its_choices()
         → log ≡ log_of_choices config (choices_of log.items) }
 {}
 
-/// The one log of a script is legal and has the script's choices, where the machine runs the
-/// configuration. So what `script` is due to write is the text of a legal log, also where a write
+/// The one log of a script is legal and has the script's choices. So what `script` is due to write is the text of a legal log, also where a write
 /// fails before its end or memory is refused.
 pub fn script_logs_are_legal()
-    ensures legal { (config : Config) → IsSound config → is_runnable config ≡ true
+    ensures legal { (config : Config) → IsSound config
         → IsLegal config (script_log config) }
     ensures choices { (config : Config)
         → choices_of (script_log config).items ≡ script_choices config }

@@ -8,7 +8,6 @@ mod check_writing;
 mod commands;
 mod laws;
 mod refusal_text;
-mod runnable;
 mod scripting;
 #[cfg(test)]
 mod tests;

@@ -177,7 +177,6 @@ fn push_words(refusal: Refused, page: &mut Page)
     match refusal {
         Refused::TooLong => push_word("TooLong", page),
         Refused::NotToml => push_word("NotToml", page),
-        Refused::NotYet => push_word("NotYet", page),
         Refused::UnknownKey { spot } => push_at_spot("UnknownKey", spot, page),
         Refused::MissingKey { spot, key } => push_at_key("MissingKey", spot, key, page),
         Refused::BadValue { spot, key } => push_at_key("BadValue", spot, key, page),

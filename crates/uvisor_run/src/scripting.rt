@@ -1,11 +1,11 @@
-ghost use Rattle.std.specs.Prelude.{◌≡◌, ◌+◌, ◌<◌, ◌≤◌, true, IfOk, Some, slice_get};
+ghost use Rattle.std.specs.Prelude.{◌≡◌, ◌+◌, ◌<◌, ◌≤◌, IfOk, Some, slice_get};
+ghost use Rattle.box_isolation.specs.Isolation.{Isolated};
 ghost use Rattle.flat_model.specs.Legal.{IsLegal};
 ghost use Rattle.flat_model.specs.Log.{choices_of};
 ghost use Rattle.flat_model.specs.Script.{choice_of_word, script_choices};
-ghost use Rattle.flat_model.specs.Sound.{IsSound};
+ghost use Rattle.flat_model.specs.Sound.{IsScriptWord, IsSound};
 ghost use Rattle.machine_core.specs.View.{with_event, world_of};
-ghost use Rattle.uvisor_run.specs.Runnable.{is_runnable};
-ghost use Rattle.uvisor_run.specs.Scripting.{IsFresh, runs_word};
+ghost use Rattle.uvisor_run.specs.Scripting.{IsFresh};
 
 use flat_model::{Config, Drive, Log, OutOfMemory, ScriptWord, ThreadId};
 use machine_core::Machine;
@@ -13,7 +13,7 @@ use std::alloc::Global;
 
 // The event that a word of the script stands for.
 fn run_word(machine: &mut Machine, word: ScriptWord)
-    requires word { runs_word machine.old.config word ≡ true }
+    requires word { IsScriptWord machine.old.config word }
     requires drive { machine.old.drive ≡ Drive.Script }
     requires extra { 1 ≤ machine.old.extra }
 
@@ -26,7 +26,7 @@ fn run_word(machine: &mut Machine, word: ScriptWord)
 {
     match word {
         ScriptWord::Thread(t) => machine.script_step(t),
-        ScriptWord::Ring(_) => {}
+        ScriptWord::Ring(line) => machine.ring_plain(line),
     }
 }
 
@@ -41,7 +41,6 @@ fn word_at(config: &Config, i: usize) -> Option<ScriptWord>
 fn run_words(machine: &mut Machine, words: usize)
     requires fresh { IsFresh machine.old words }
     requires sound { IsSound machine.old.config }
-    requires runnable { is_runnable machine.old.config ≡ true }
 
     ensures config { machine.new.config ≡ machine.old.config }
     ensures choices { choices_of machine.new.items ≡ script_choices machine.old.config }
@@ -58,11 +57,11 @@ fn run_words(machine: &mut Machine, words: usize)
 /// log.
 pub fn run_script(alloc: Global, config: Config) -> Result<(Config, Log), OutOfMemory>
     requires sound { IsSound config }
-    requires runnable { is_runnable config ≡ true }
 
     ensures config { IfOk result (λ run. run.0 ≡ config) }
     ensures legal { IfOk result (λ run. IsLegal config run.1) }
     ensures choices { IfOk result (λ run. choices_of run.1.items ≡ script_choices config) }
+    ensures isolated { IfOk result (λ run. Isolated config run.1) }
 {
     let words = config.script.len();
     let mut machine = Machine::boot(alloc, config, Drive::Script, words as u32)?;

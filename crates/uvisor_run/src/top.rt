@@ -5,13 +5,11 @@ ghost use Rattle.flat_model.specs.Sound.{IsSound};
 ghost use Rattle.io_edge.specs.Counts.{Rose};
 ghost use Rattle.uvisor_run.specs.Headline.{HasConfig, IsAnswered, IsCommandRun, IsTold, IsToldInMemory, IsUsageRun};
 ghost use Rattle.uvisor_run.specs.Output.{command_of, log_output, output_for, output_of};
-ghost use Rattle.uvisor_run.specs.Runnable.{is_runnable};
 
 use crate::acceptance::{Accepted, INPUT_LIMIT, accept_document};
 use crate::answers::{NO_MEMORY, READ_FAULT, WRITE_FAULT, answer_refusal, answer_usage};
 use crate::check_writing::write_check;
 use crate::commands::{Command, command_of};
-use crate::runnable::is_runnable;
 use crate::scripting::run_script;
 use flat_model::{Config, ConfigErr, Log, Refused};
 use io_edge::{ReadErr, Sink, Source, WriteErr, read_all};
@@ -35,7 +33,6 @@ fn answer_log<K: Sink>(config: &Config, log: &Log, sink: &mut K) -> u8
 #[tactic(auto, using(crate::proofs::Told::refused_memory))]
 fn serve_script<K: Sink>(alloc: Global, config: Config, sink: &mut K) -> u8
     requires sound { IsSound config }
-    requires runnable { is_runnable config ≡ true }
     ensures { IsToldInMemory (log_output config (script_log config))
         (K.written sink.old) (K.written sink.new) (K.faults sink.old) (K.faults sink.new) result }
 {
@@ -58,20 +55,6 @@ fn serve_check<K: Sink>(config: &Config, sink: &mut K) -> u8
     }
 }
 
-// Serves the script of a configuration, where the machine runs it.
-#[tactic(auto, using(crate::proofs::Told::runnable_told, crate::proofs::Told::unrunnable_told))]
-fn serve_runnable<K: Sink>(alloc: Global, config: Config, sink: &mut K) -> u8
-    requires { IsSound config }
-    ensures { IsToldInMemory (output_for Command.Script config)
-        (K.written sink.old) (K.written sink.new) (K.faults sink.old) (K.faults sink.new) result }
-{
-    if is_runnable(&config) {
-        serve_script(alloc, config, sink)
-    } else {
-        answer_refusal(Refused::NotYet, sink)
-    }
-}
-
 // Serves a command of a configuration.
 #[tactic(auto, using(crate::proofs::Told::check_told))]
 fn serve_config<K: Sink>(alloc: Global, command: Command, config: Config, sink: &mut K) -> u8
@@ -81,7 +64,7 @@ fn serve_config<K: Sink>(alloc: Global, command: Command, config: Config, sink: 
 {
     match command {
         Command::Check => serve_check(&config, sink),
-        Command::Script => serve_runnable(alloc, config, sink),
+        Command::Script => serve_script(alloc, config, sink),
     }
 }
 

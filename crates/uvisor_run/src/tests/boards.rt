@@ -142,3 +142,41 @@ thread crypto.0 steps 10000
 5 rpc_return r0
 6 jump 0
 ";
+
+/// A heap of eight pages of 1 KiB, which are one group.
+pub const HEAP: &str = "heap = { base = 0x20008000, page = 1024, count = 8 }\n";
+
+/// The log of `SENSOR_BOARD`, with `Z` for a word that is zero.
+pub const SENSOR_BOARD_LOG: &str = "unit switch main
+turn main.0 ok
+turn main.0 posted 1
+unit switch crypto
+start crypto.0 main.0#1 ok 0x00000001 0x00000011 Z Z Z
+ring 37 by 0
+unit switch sensor
+turn sensor.0 ok
+turn sensor.0 ok
+turn sensor.0 irq 37
+turn sensor.0 ok
+unit rotate 2 0x40011000 0x13000009
+unit access read 4 0x40011004 slot 2
+turn sensor.0 ok 0x00000041
+unit access write 4 0x20000800 slot 1
+turn sensor.0 ok
+turn sensor.0 ok
+unit switch crypto
+turn crypto.0 ok
+turn crypto.0 ok
+unit access read 4 0x00070000 slot 0
+turn crypto.0 ok 0x5EC2E700
+turn crypto.0 ok
+turn crypto.0 ok
+unit switch main
+turn main.0 ok 0x5EC2E711
+turn main.0 halted
+unit switch sensor
+turn sensor.0 ok
+thread main.0 halted 4 0x5EC2E711 Z Z Z Z Z Z Z
+thread sensor.0 ready 8 Z Z Z Z 0x20000800 Z Z Z
+thread crypto.0 ready 6 0x5EC2E711 Z Z Z 0x00000001 0x00070000 0x5EC2E700 Z
+";

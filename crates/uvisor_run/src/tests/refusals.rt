@@ -116,9 +116,7 @@ thread a.0 steps 10000
 ";
 
 #[test]
-fn what_the_machine_does_not_run_yet_is_refused_by_script_alone(
-    rt: HostRuntime,
-) -> Result<(), Fail> {
+fn check_lists_programs_lines_and_a_whole_board(rt: HostRuntime) -> Result<(), Fail> {
     let call = Case {
         script: &[],
         board: "",
@@ -139,7 +137,6 @@ fn what_the_machine_does_not_run_yet_is_refused_by_script_alone(
         (SENSOR_BOARD, SENSOR_BOARD_CHECK),
     ];
     for (input, text) in table {
-        check_text(&rt, rt.alloc(), "script", input, 1, "refused NotYet\n")?;
         check_text(&rt, rt.alloc(), "check", input, 0, text)?;
     }
     Ok(())

@@ -1,4 +1,3 @@
-use crate::runnable::is_runnable;
 use crate::tests::answers::ample_sink;
 use crate::tests::boards::{ONE_BOX, ONE_BOX_CHECK};
 use crate::tests::inputs::{Case, input_of, plain};
@@ -12,7 +11,6 @@ use std::test::Fail;
 // The configuration of a text, and the log of its script.
 fn run_of(rt: &impl Abort, alloc: Global, input: &str) -> Result<(Config, Log), Fail> {
     let config = accept(alloc, input.as_bytes()).map_err(|_| "refused")?;
-    assert!(rt; is_runnable(&config));
     let run = run_script(alloc, config).map_err(|_| "no memory")?;
     Ok(run)
 }

@@ -5,7 +5,6 @@ use Rattle.flat_model.specs.declared.parts.Config.{Config}
 use Rattle.flat_model.specs.Sound.{IsSound}
 use Rattle.flat_model.proofs.Elements.{slice_get_some}
 use Rattle.machine_core.specs.View.{MachineView}
-use Rattle.uvisor_run.specs.Runnable.{is_runnable}
 use Rattle.uvisor_run.proofs.Scripts.{IsOnScript, script_goes_on, script_word}
 use Rattle.uvisor_run.proofs.scripting.run_words.Goals as goal
 use Rattle.uvisor_run.proofs.scripting.run_words.Goals.{in-Some, in-None}
@@ -17,7 +16,6 @@ run_word-requires-clause-word c =
     ap (λ (cfg : Config). slice_get cfg.script c.loop-i.i) (sym c.config.ensures) ∙ sym c.word_at.ensures ∙ c.in-Some.is in
     script_word c.loop-i.machine.config c.loop-i.i c.in-Some.word
     (subst IsSound (sym c.loop-i.invariant.0) c.requires.sound)
-    (ap is_runnable c.loop-i.invariant.0 ∙ c.requires.runnable)
     at
 
 -- src/scripting.rt:49:5

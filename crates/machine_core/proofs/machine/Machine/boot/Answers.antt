@@ -8,7 +8,7 @@ pub invariant_of-result : goal.invariant_of-result
 invariant_of-result c =
     let steps = c.total_steps-steps.ensures ∙ ap (sum_by (λ (thread : ThreadPart). thread.steps)) c.as_slice.ensures in (
       ap (λ (s : MachineState). s.config) c.in_ok-state.ensures,
-      kept-boot c.args.config c.args.drive c.args.extra c.in_ok-journal.journal c.in_ok-state.state _ c.requires.sound c.requires.today
+      kept-boot c.args.config c.args.drive c.args.extra c.in_ok-journal.journal c.in_ok-state.state _ c.requires
           c.in_ok-state.ensures c.in_ok-journal.ensures (omega (arith, steps, c.beside.ensures)),
       record { none = c.in_ok-ends.ensures.items; room = omega (arith, c.len.ensures, c.in_ok-ends.ensures.exact) },
     )

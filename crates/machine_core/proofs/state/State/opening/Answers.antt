@@ -15,7 +15,7 @@ invariant_of-result c =
     let world = opening-is cfg k c.in_ok-threads.threads c.in_ok-unit.unit.unit c.in_ok-kernel.ensures c.in_ok-threads.ensures (ap (λ (u : ProtectionState). u.unit) c.in_ok-unit.ensures) in (
       ap (λ (u : ProtectionState). u.config) c.in_ok-unit.ensures ∙ sym config,
       subst (λ (x : Config). IsKeptState x (world_with k c.in_ok-threads.threads c.in_ok-unit.unit.unit)) (sym config)
-          (subst (IsKeptState cfg) (sym world) (kept-opening cfg c.requires.sound c.requires.today)),
+          (subst (IsKeptState cfg) (sym world) (kept-opening cfg c.requires)),
     )
 
 pub returns : goal.returns

@@ -1,4 +1,4 @@
-use Rattle.std.proofs.Common.{◌≡◌, ap, sym, ◌∙◌, map}
+use Rattle.std.proofs.Common.{◌≡◌, refl, ap, sym, ◌∙◌, map}
 use Rattle.addr_base.specs.declared.pairs.Verdict.TheVariants.{Denied}
 use Rattle.flat_model.specs.declared.events.Logged.TheVariants as item
 use Rattle.flat_model.specs.Decision.{decision}
@@ -15,7 +15,7 @@ returns-in_default-clause-journal c b part last found =
     let denied : decision s.unit.pairs c.args.access.at c.args.access.kind ≡ Denied =
     sym (c.decide.ensures ∙ ap (λ (v : ProtectionState). decision v.unit.pairs c.args.access.at c.args.access.kind) c.self.view_is) ∙ c.in-Denied.is in
     noted-none c.args.journal.now _
-    (rotation-none s.config c.args.owners.now c.as_vec.result.now.items b.0 part s.unit c.args.access denied c.as_vec.ensures run.1)
+    (rotation-none s.config c.args.owners.now.items c.args.owners.now.items b.0 part s.unit c.args.access denied refl run.1)
 
 pub returns-in-Some-clause-journal : goal.returns-in-Some-clause-journal
 returns-in-Some-clause-journal c b part last found =
@@ -23,5 +23,5 @@ returns-in-Some-clause-journal c b part last found =
     let run = c.in-Some.ensures.run s.config b part s.unit (c.self.invariant ∙ ap (λ (v : ProtectionState). rotation_of v.config v.unit) c.self.view_is) last found in
     let denied : decision s.unit.pairs c.args.access.at c.args.access.kind ≡ Denied =
     sym (c.decide.ensures ∙ ap (λ (v : ProtectionState). decision v.unit.pairs c.args.access.at c.args.access.kind) c.self.view_is) ∙ c.in-Denied.is in
-    let lines = rotation-line s.config c.args.owners.now c.as_vec.result.now.items b.0 part s.unit c.args.access denied c.as_vec.ensures c.in-Some.rotated run.1 in
+    let lines = rotation-line s.config c.args.owners.now.items c.args.owners.now.items b.0 part s.unit c.args.access denied refl c.in-Some.rotated run.1 in
     c.note.ensures ∙ ap (λ ls. noted c.args.journal.now (map item.Unit ls)) (sym lines)
