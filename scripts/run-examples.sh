@@ -1,9 +1,10 @@
 #!/usr/bin/env bash
 # Compares what the program and the outside tools print on the examples with the stored outputs, byte by byte.
 # Beside NAME.toml: NAME.log is the output of `script`, NAME.check that of `check`; in refused/, NAME.line is that of
-# `check`, and NAME.script-line that of `script` where `check` refuses nothing. NAME.explain, NAME.counts, NAME.scheduled,
+# `check`. NAME.explain, NAME.counts, NAME.scheduled,
 # NAME.board-map, NAME.map.svg, NAME.run.svg and, in refused/, NAME.lint are those of the tools; NAME.map and NAME.who come
-# from NAME.check alone.
+# from NAME.check alone. NAME.slots, NAME.told (explain), NAME.who-after, NAME.map-after and NAME.map-after.svg are those at
+# the line of the log that stands in NAME.line-number; the address of NAME.who and NAME.who-after stands in NAME.address.
 # What `main` answers to words that are no command, and with its output closed, is compared with what is due.
 # It runs the proved build where there is one, else an unproved build that it makes once for each command. Then the tools
 # that run the program themselves are passed over, since each call would make a build of its own.
@@ -114,9 +115,14 @@ tool() {
 
 # tools NAME INPUT: compares what the tools print that run the program themselves
 tools() {
-    local name=$1 input=$2
+    local name=$1 input=$2 line
     [ -x "$proved" ] || { passed=$((passed + 1)); return 0; }
-    tool "$name.slots" scripts/slots-at "$input" "$name.log" "$(cat "$name.line-number" 2>/dev/null)"
+    line=$(cat "$name.line-number" 2>/dev/null)
+    tool "$name.slots" scripts/slots-at "$input" "$name.log" "$line"
+    tool "$name.told" scripts/explain "$input" "$name.log" "$line"
+    tool "$name.who-after" scripts/who-holds "$(cat "$name.address" 2>/dev/null)" "$input" --log "$name.log" --line "$line"
+    tool "$name.map-after" scripts/memory-map "$input" --log "$name.log" --line "$line"
+    tool "$name.map-after.svg" scripts/memory-map "$input" --svg --log "$name.log" --line "$line"
     tool "$name.explain" scripts/explain "$input" "$name.log"
     tool "$name.board-map" scripts/memory-map "$input"
     tool "$name.map.svg" scripts/memory-map "$input" --svg
@@ -128,7 +134,7 @@ tools() {
 passed=0
 echo "run-examples: comparing the stored outputs, which takes some seconds" >&2
 [ -x "$proved" ] || echo "run-examples: this is an unproved build ('rt run' in crates/uvisor makes the proved one)" >&2
-inputs=(examples/*.toml examples/faults/*.toml)
+inputs=(examples/*.toml examples/faults/*.toml examples/statuses/*.toml)
 refused=(examples/refused/*.toml)
 run script "${inputs[@]}" "${refused[@]}"
 run check "${inputs[@]}" "${refused[@]}"
@@ -144,7 +150,6 @@ done
 for input in "${refused[@]}"; do
     name=${input%.toml}
     [ -f "$name.line" ] && told "$name.line" 1 check "$input"
-    [ -f "$name.script-line" ] && told "$name.script-line" 1 script "$input"
     tools "$name" "$input"
 done
 [ "$passed" -eq 0 ] || echo "run-examples: the tools that run the program were passed over on $passed inputs" >&2

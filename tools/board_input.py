@@ -27,6 +27,12 @@ class Heap:
         """The number of the page that holds an address of the heap."""
         return (address - self.base) // self.page
 
+    def runs(self, owners):
+        """The runs of pages that have one owner, or none: the owner, the first page and the last, and their range."""
+        starts = [number for number, owner in enumerate(owners) if number == 0 or owner != owners[number - 1]]
+        return [(owners[first], first, following - 1, Range(self.frame(first).base, (following - first) * self.page))
+                for first, following in zip(starts, starts[1:] + [len(owners)])]
+
 
 @dataclass(frozen=True)
 class Board:

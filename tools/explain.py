@@ -1,9 +1,10 @@
 """`scripts/explain`: lines of a log in words, and why each fault came."""
-from tools import advice, sentences
-from tools.entry import Wrong, run, words
+from tools import advice, kernel_calls, sentences
+from tools.entry import run, words
 from tools.files import read_text
 from tools.firmware import firmware_of
-from tools.log_text import Access, End, Flush, Rotate, Switch, Turn, read_log
+from tools.log_text import Access, End, Flush, Ring, Rotate, Switch, Turn, read_log
+from tools.moment import wanted_line
 from tools.numbers import hexadecimal, of
 from tools.replay import Replay, followed, place_of
 from tools.unit import NEEDS, Pair, Unit
@@ -46,7 +47,7 @@ def denied(replay, state, item):
     kind, size, address = state.named_access()
     box = state.thread.box
     return [address_line(state), *replay.unit.shown(), deciding(replay.unit, address, kind),
-            advice.held_by(replay, address, size), advice.nearest(replay, box, address, size),
+            advice.held_by(replay, address, size), *replay.firmware.reaching(address), advice.nearest(replay, box, address, size),
             advice.advice(replay.firmware, box, kind, address)]
 
 
@@ -76,9 +77,21 @@ def turn(replay, item):
     state = replay.threads[item.thread]
     if state.ended:
         return [f"{item.thread} has {state.mode}: {sentences.answer(item.reply)}".replace("has spent:", "has spent its steps:")]
-    if item.reply.word == "irq" or state.waiting:
-        return [f"{item.thread}: {sentences.answer(item.reply)}"]
-    return [instruction_line(state, replay.firmware.path), sentences.answer(item.reply)]
+    said = f"{item.thread}: {sentences.answer(item.reply)}"
+    if item.reply.word == "irq":
+        handler = state.thread.box.lines[item.reply.number]
+        return [said, f"its handler is at place {handler}; place {state.place} and the registers are kept until irq_return"]
+    if state.waiting:
+        call, looks = state.waiting
+        return [said, f"it waits for its call {call}, with {of(looks, 'look')} left, this one among them"]
+    return [instruction_line(state, replay.firmware.path), *called(replay, state, item.reply)]
+
+
+def called(replay, state, reply):
+    """What an instruction was answered; for a kernel call also by which register gateway, and why not."""
+    through = kernel_calls.through(replay, state.instruction)
+    lines = ([through] if through else []) + [sentences.answer(reply)]
+    return lines + [kernel_calls.why(replay, state, reply.number)] if reply.word == "status" else lines
 
 
 def rotated(replay, item):
@@ -92,6 +105,14 @@ def looked(replay, item):
     return [sentences.said(item), *replay.unit.shown(), deciding(replay.unit, item.address, item.kind)]
 
 
+def rung(replay, item):
+    """The lines on a ring."""
+    owner = next(box.name for box in replay.firmware.boxes if item.line in box.lines)
+    enabled = "enabled" if item.line in replay.enabled else "not enabled"
+    latched = "latched already, so that both rings are one interrupt" if item.line in replay.latched else "latched by this ring"
+    return [sentences.said(item), f"it is a line of {owner}; it is {enabled}, and {latched}"]
+
+
 def explained(replay, item):
     """The lines on a line of the log, from the state before it."""
     if isinstance(item, Turn):
@@ -100,22 +121,12 @@ def explained(replay, item):
         return rotated(replay, item)
     if isinstance(item, Access):
         return looked(replay, item)
-    return [sentences.said(item)]
+    return rung(replay, item) if isinstance(item, Ring) else [sentences.said(item)]
 
 
 def block(log, item, lines):
     """A line of the log with what is said of it."""
     return "\n".join([f"{log.name}:{item.number}: {item.text}", *("  " + line for line in lines)]) + "\n"
-
-
-def wanted_line(log, number):
-    """The line of that number, which must be there."""
-    if number is None:
-        return None
-    line = log.line(int(number)) if number.isascii() and number.isdigit() and not number.startswith("0") else None
-    if line is None:
-        raise Wrong(f"{log.name} has no line '{number}'; its lines are 1 to {len(log.items) + len(log.ends)}")
-    return line
 
 
 def answer(parsed):

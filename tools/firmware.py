@@ -3,7 +3,7 @@ from dataclasses import dataclass
 
 from tools import placing
 from tools.board_input import input_of
-from tools.check_text import read_check
+from tools.check_text import CheckedBox, Item, read_check
 from tools.entry import Wrong
 from tools.files import as_text, read_bytes
 from tools.program import accepted
@@ -121,6 +121,30 @@ class Firmware:
     def box_named(self, name):
         """The box of that name, or None."""
         return next((box for box in self.boxes if box.name == name), None)
+
+    def page_runs(self, owners):
+        """The runs of pages that have one owner; the owners are the numbers of boxes, or None."""
+        return self.board.heap.runs(owners) if self.board.heap else []
+
+    def page_parts(self, owners):
+        """The runs of pages as parts of the board, each with its name."""
+        return [(f"heap page {first}" if first == last else f"heap pages {first} to {last}", whole)
+                for _, first, last, whole in self.page_runs(owners)]
+
+    def holders(self, owners):
+        """What each box holds, its pages among it."""
+        pages = [(owner, Item("rw", whole)) for owner, _, _, whole in self.page_runs(owners)]
+        return [CheckedBox(box.name, box.items + [page for owner, page in pages if owner == box.index]) for box in self.boxes]
+
+    def owner_shown(self, owner):
+        """Who owns a page, in words."""
+        return "free" if owner is None else f"owned by {self.boxes[owner].name}"
+
+    def reaching(self, address):
+        """The register gateways that reach an address, in words."""
+        found = [(number, gate) for number, gate in enumerate(self.text.registers) if gate.at <= address < gate.at + 4]
+        return [f"register gateway {number} ({gate.op}) reaches it for {', '.join(dict.fromkeys(gate.boxes)) or 'no box'}"
+                for number, gate in found]
 
     def region(self, address):
         """Which part of the board holds an address: its name and its range, or None."""

@@ -1,4 +1,4 @@
-"""The one reader of logs. It knows each line that a log may have, also those of programs that do not run yet."""
+"""The one reader of logs. It knows each line that a log may have."""
 import re
 from dataclasses import dataclass
 

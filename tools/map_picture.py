@@ -7,7 +7,7 @@ from tools.numbers import hexadecimal
 COLORS = {"r": "#cfe3f7", "rw": "#bfe5c4", "rx": "#f9dfae", "rwx": "#f4b8b0"}
 EMPTY, GAP, PAGES, INK, FAINT = "#f4f4f4", "#ffffff", "#e3d7f0", "#222222", "#888888"
 LEFT, TOP, COLUMN, SPACE, RIGHT = 124, 76, 118, 8, 300
-LOWEST, PER_DOUBLING, GAP_HEIGHT = 30, 3, 24
+LOWEST, PER_DOUBLING, GAP_HEIGHT, LETTER = 30, 3, 24, 7
 
 
 def height(segment):
@@ -84,7 +84,7 @@ def legend(y, named, pages, below):
 
 def picture(boxes, segments, named, below):
     """The whole picture."""
-    width = max(LEFT + len(boxes) * (COLUMN + SPACE) + RIGHT, 760)
+    width = max(LEFT + len(boxes) * (COLUMN + SPACE) + RIGHT, LEFT + LETTER * max(map(len, below), default=0), 760)
     head = [svg.text(LEFT, 28, "Memory: what each box may do", 16, fill=INK),
             svg.text(LEFT, 46, "addresses from high to low; heights are not to scale", 11, fill=FAINT)]
     for number, box in enumerate(boxes):

@@ -6,12 +6,15 @@ from tools.check_text import read_check
 from tools.entry import run, words
 from tools.files import standard_input
 from tools.firmware import firmware_of
+from tools.moment import add_words, check_words, moment_of
 from tools.numbers import hexadecimal
 from tools.ranges import Range
 
 NOTES = """With FILE, the input, the parts of the board are named; without it the text of 'check' is read from standard input,
-which does not name them. Who owns a page of the heap changes while the firmware runs, and register gateways write for a
-box what it does not hold: with FILE both are told, and with a text of 'check' they are not known."""
+which does not name them. Who owns a page of the heap changes while the firmware runs, and register gateways reach for
+a box what it does not hold: with FILE both are told, and with a text of 'check' they are not known. With --log and --line
+the log is followed beside the input, one that is no log of it is refused, and the pages are shown as they are owned after
+that line. A page changes its owner at the turn of its page call, which stands right after the flush."""
 NARROWEST = 15
 PART = 31
 
@@ -81,14 +84,20 @@ def gates(firmware):
 
 def answer(parsed):
     """The text and the status."""
+    check_words(parsed)
+    above, below = "", ""
     if parsed.file is None:
-        boxes, parts, below = read_check(standard_input(), "standard input"), (), ""
+        boxes, parts = read_check(standard_input(), "standard input"), ()
     else:
         firmware = firmware_of(parsed.file)
         boxes, parts, below = firmware.boxes, firmware.regions(), gates(firmware)
+        moment = moment_of(parsed, firmware)
+        if moment:
+            boxes, parts = firmware.holders(moment.owners), firmware.page_parts(moment.owners) + parts
+            above = f"pages {moment.shown}\n"
     if parsed.svg:
-        return map_picture.picture(boxes, segments(boxes, parts), bool(parts), below.splitlines()), 0
-    return table(boxes, parts) + below, 0
+        return map_picture.picture(boxes, segments(boxes, parts), bool(parts), (above + below).splitlines()), 0
+    return above + table(boxes, parts) + below, 0
 
 
 def main():
@@ -97,4 +106,5 @@ def main():
                    "scripts/memory-map examples/03-secret.toml --svg > map.svg", NOTES)
     parser.add_argument("file", metavar="FILE", nargs="?", help="the input")
     parser.add_argument("--svg", action="store_true", help="draw a picture that stands alone")
+    add_words(parser)
     return run(parser, answer)

@@ -25,7 +25,6 @@ def accepted(command, content, path):
     """The text of an accepted input; a refused one is refused here too."""
     status, text = answered(command, content)
     if status == REFUSED:
-        linted = Path(path).is_file() and read_refusal(text).name != "NotYet"
-        more = f" ('scripts/lint {path}' says more)" if linted else ""
+        more = f" ('scripts/lint {path}' says more)" if Path(path).is_file() else ""
         raise Wrong(f"{path} is refused by '{command}': {text.strip()}{more}")
     return text

@@ -4,7 +4,7 @@ from dataclasses import dataclass
 
 PLACE = r"(?:top|board|heap|box \d+(?: (?:thread|grant|irq) \d+)?|(?:register|gateway|device) \d+)"
 FORMS = {
-    "TooLong": "", "NotToml": "", "NotYet": "",
+    "TooLong": "", "NotToml": "",
     "UnknownKey": PLACE, "MissingKey": PLACE + r" [a-z]+", "BadValue": PLACE + r" [a-z]+", "TooMany": PLACE + r" [a-z]+",
     "BadBoard": r"[a-z]+", "BadName": r"box \d+", "TwiceNamed": r"box \d+", "NoRoom": r"box \d+",
     "BadGrant": r"box \d+ grant \d+", "GrantOutside": r"box \d+ grant \d+", "SelfOverlap": r"box \d+ grant \d+",

@@ -1,8 +1,9 @@
 """A log followed beside its input. Each line is compared with what it must be; a log of another board is refused."""
+from tools import kernel_calls
 from tools.entry import Wrong
 from tools.log_text import Access, Flush, Idle, Ring, Rotate, Start, Switch, Turn
-from tools.threads import Differs, ThreadState, must
-from tools.unit import Pair, Unit, plan
+from tools.threads import STATUSES, Differs, ThreadState, must
+from tools.unit import NEEDS, Pair, Unit, plan
 
 
 # The lines of the unit before an event, in their order, and the calls before which it empties slots.
@@ -36,6 +37,7 @@ class Replay:
         self.latched = set()
         self.enabled = set()
         self.calls = {}
+        self.inboxes = {box.name: [] for box in firmware.boxes}
         self.access = None
         self.rotated = None
         self.pending = []
@@ -131,33 +133,48 @@ class Replay:
         self.access, self.rotated = item, None
 
     def holds(self, item):
-        """Whether the box holds the bytes for that kind of access."""
-        letter = {"read": "r", "write": "w", "fetch": "x"}[item.kind]
-        if any(letter in held.rights for held in self.unit.box.holding(item.address, item.size)):
+        """Whether the box that the unit is loaded for holds the bytes for that kind of access."""
+        return self.may(item.kind, item.address, item.size, self.unit.box)
+
+    def may(self, kind, address, size, box):
+        """Whether a box holds these bytes for a kind of access."""
+        if any(NEEDS[kind] in held.rights for held in box.holding(address, size)):
             return True
-        frame = self.frame(item.address)
-        return frame is not None and item.kind != "fetch" and self.owners[frame] == self.unit.box.index
+        frame = self.frame(address)
+        return frame is not None and kind != "fetch" and self.owners[frame] == box.index
 
     def frame(self, address):
         """The number of the page that holds an address, or None."""
         heap = self.firmware.board.heap
         return heap.number(address) if heap and heap.range.holds(address) else None
 
+    def due_line(self, state):
+        """The line whose interrupt is due to a thread: the lowest of its box that is latched and enabled, or None."""
+        if state.ended or state.waiting or state.saved or state.thread.index != 0:
+            return None
+        return min(self.latched & self.enabled & set(state.thread.box.lines), default=None)
+
     def turn(self, item):
         """A turn."""
         state = self.home(item.thread)
         access, self.access = self.access, None
-        if item.reply.word == "irq":
-            must(item.reply.number in self.latched & self.enabled, "the line is not latched and enabled")
-        before = None if state.ended or state.waiting or item.reply.word == "irq" else state.instruction
+        irq = item.reply.number if item.reply.word == "irq" else None
+        must(irq == self.due_line(state), "another line, or none, is due to be delivered")
+        before = None if state.ended or state.waiting or irq is not None else state.instruction
+        if state.waiting:
+            answered = self.calls[item.thread, state.waiting[0]].answered
+            must((item.reply.word == "ok") == (answered is not None), "a look gives the result exactly where the call is done")
+        if before and before.word in STATUSES:
+            answered = item.reply.number if item.reply.word == "status" else 0
+            must(kernel_calls.fits(self, state, answered), "the call is due another answer")
         self.event(before is not None and before.word in PAGE_CALLS and item.reply.word in ("ok", "frames"))
         registers = list(state.registers)
         waited, served = state.waiting, state.serving
         state.turn(item.reply, access)
         if waited and state.waiting is None and item.reply.word == "ok":
             self.collect(item, waited[0])
-        if item.reply.word == "irq":
-            self.latched.discard(item.reply.number)
+        if irq is not None:
+            self.latched.discard(irq)
         elif before and item.reply.word in ("ok", "frames", "posted"):
             self.done(item, state, before, registers, served)
 
@@ -194,10 +211,9 @@ class Replay:
 
     def post(self, item, gateway, arguments):
         """A call is posted."""
-        gateways = self.firmware.text.gateways
-        must(gateway < len(gateways), "there is no such gateway")
         ticket = (item.thread, item.reply.number)
-        self.calls[ticket] = Call(ticket, gateways[gateway], arguments, item)
+        self.calls[ticket] = Call(ticket, self.firmware.text.gateways[gateway], arguments, item)
+        self.inboxes[self.calls[ticket].target].append(ticket)
 
     def collect(self, item, number):
         """A call is collected by its caller."""
@@ -210,19 +226,24 @@ class Replay:
         state = self.home(item.thread)
         must(self.access is None, "a start makes no access")
         self.event(False)
+        must(self.due_line(state) is None, "an interrupt is due to the server")
         state.take(item)
+        ticket, inbox = (item.caller, item.call), self.inboxes[state.thread.box.name]
+        oldest = next((other for other in inbox if other[0] == item.caller), None)
+        must((ticket == oldest) == (item.words is not None), "the oldest call of a thread is started, and no other")
         if item.words is not None:
-            call = self.calls.get((item.caller, item.call))
-            must(call and call.started is None and call.target == state.thread.box.name, "that call is not to be started")
+            call = self.calls[ticket]
             must(item.words == call.words, "the call was posted with other words")
             state.registers[5] = self.threads[item.caller].thread.box.index
             call.started = item
+            inbox.remove(ticket)
 
     def idle(self, item):
         """A server finds no call."""
         state = self.home(item.thread)
         must(self.access is None, "an idle look makes no access")
         self.event(False)
+        must(self.due_line(state) is None, "an interrupt is due to the server")
         state.take(None)
 
     def ring(self, item):
@@ -239,8 +260,7 @@ class Replay:
 
     def shown_owner(self, frame):
         """Who owns a page, in words."""
-        owner = self.owners[frame]
-        return "free" if owner is None else f"owned by {self.firmware.boxes[owner].name}"
+        return self.firmware.owner_shown(self.owners[frame])
 
 
 FOLLOWED = {Switch: Replay.switch, Rotate: Replay.rotate, Access: Replay.look, Flush: Replay.flush, Turn: Replay.turn,

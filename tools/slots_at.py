@@ -1,10 +1,9 @@
 """`scripts/slots-at`: the eight slots of the unit after a line of a log."""
 from tools.entry import run, words
-from tools.explain import wanted_line
 from tools.files import read_text
 from tools.firmware import firmware_of
-from tools.log_text import End, read_log
-from tools.replay import Replay
+from tools.log_text import read_log
+from tools.moment import taken_after, wanted_line
 
 NOTES = """LINE is the number of a line of LOG, from 1. The log is followed line by line beside the input, and one that is no log
 of it is refused. Which pages a box owns is shown as the subregions of a slot."""
@@ -13,16 +12,9 @@ of it is refused. Which pages a box owns is shown as the subregions of a slot.""
 def answer(parsed):
     """The text and the status."""
     log = read_log(read_text(parsed.log), parsed.log)
-    wanted = wanted_line(log, parsed.line)
-    replay = Replay(firmware_of(parsed.file), log)
-    shown, last = None, None
-    for item in replay:
-        if last is wanted:
-            shown = (replay.unit.shown(), replay.unit.circle)
-        last = item
-    if shown is None or isinstance(wanted, End):
-        shown = (replay.unit.shown(), replay.unit.circle)
-    lines = [f"after line {wanted.number}: {wanted.text}", *shown[0], f"the next pair goes to slot {shown[1]}"]
+    line = wanted_line(log, parsed.line)
+    shown, circle = taken_after(firmware_of(parsed.file), log, line, lambda replay: (replay.unit.shown(), replay.unit.circle))
+    lines = [f"after line {line.number}: {line.text}", *shown, f"the next pair goes to slot {circle}"]
     return "\n".join(lines) + "\n", 0
 
 

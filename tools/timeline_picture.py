@@ -77,12 +77,16 @@ def loaded(layout, box):
     return pieces
 
 
+def triangle(x, y):
+    """A hollow triangle."""
+    corners = f"M {x - 6:g} {y + 6:g} L {x + 6:g} {y + 6:g} L {x:g} {y - 6:g} z"
+    return svg.path(corners, fill="none", stroke=IRQ, stroke_width=1.5)
+
+
 def mark(entry, x, y):
     """The mark of an entry."""
     if isinstance(entry, Ring):
-        corners = f"M {x - 6:g} {y + 6:g} L {x + 6:g} {y + 6:g} L {x:g} {y - 6:g} z"
-        drawn = svg.path(corners, fill="none", stroke=IRQ, stroke_width=1.5)
-        return drawn + svg.text(x, y - 9, str(entry.line), 10, text_anchor="middle", fill=IRQ)
+        return triangle(x, y) + svg.text(x, y - 9, str(entry.line), 10, text_anchor="middle", fill=IRQ)
     if isinstance(entry, Idle) or (isinstance(entry, Start) and entry.words is None):
         return status_mark(2 if isinstance(entry, Idle) else 12, x, y)
     if isinstance(entry, Start):
@@ -171,8 +175,9 @@ def sample(kind, color, x, y):
 
 LEGEND = [
     (lambda x, y: dot(x, y, INK), "turn"), (lambda x, y: svg.rectangle(x - 5, y - 5, 10, 10, fill=INK), "halts"),
-    (lambda x, y: ring(x, y, FAINT), "waits, or has ended"), (lambda x, y: ring(x, y, STATUS), "status"),
+    (lambda x, y: ring(x, y, FAINT), "waits, or has ended"), (lambda x, y: ring(x, y, STATUS), "status, with its number"),
     (lambda x, y: turn_mark(Reply("fault"), x, y), "fault"),
+    (triangle, "ring, with its line"),
     (lambda x, y: turn_mark(Reply("irq"), x, y), "interrupt"),
     (lambda x, y: svg.line(x, y - 7, x, y + 7, stroke=IRQ, stroke_width=3), "switch"),
     (lambda x, y: svg.path(f"M {x:g} {y - 5:g} l 5 5 l -5 5 l -5 -5 z", fill=ROTATE), "rotation, with its slot"),

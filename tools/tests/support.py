@@ -22,7 +22,8 @@ def run_entry(name, *given, stdin=b""):
 
 def inputs(longest=400):
     """The accepted examples and the boards of these tests that have a log of at most so many lines beside them."""
-    listed = [*TOP.glob("examples/*.toml"), *TOP.glob("examples/faults/*.toml"), *(TOP / DATA).glob("*.toml")]
+    listed = [*TOP.glob("examples/*.toml"), *TOP.glob("examples/faults/*.toml"), *TOP.glob("examples/statuses/*.toml"),
+              *(TOP / DATA).glob("*.toml")]
     logs = [path.with_suffix(".log") for path in listed if path.with_suffix(".log").exists()]
     short = [log for log in logs if log.read_bytes().count(b"\n") <= longest]
     return sorted(log.with_suffix(".toml").relative_to(TOP) for log in short)

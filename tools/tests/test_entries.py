@@ -1,5 +1,6 @@
 """Each entry on each example, and on what it does not expect: status 2, one line on standard error, nothing printed."""
 import json
+import tempfile
 import unittest
 import xml.etree.ElementTree as tree
 
@@ -68,6 +69,37 @@ class LogEntries(Entries):
             self.assertEqual(counts["all"]["faults"], log.count(" fault "))
             self.assertEqual(counts["all"]["switches"], log.count("unit switch "))
             self.assertIn("turns", self.answers("counts", log_of(path)))
+
+    def test_pages_interrupts_and_calls_are_counted(self):
+        for name, wanted in (("04-pages", {"turns": 10, "rotations": 2, "flushes": 3, "granted": 4, "denied": 1, "rings": 0}),
+                             ("05-interrupt", {"turns": 15, "granted": 4, "rings": 3}),
+                             ("06-register-gateway", {"turns": 6, "granted": 0, "denied": 1}),
+                             ("07-remote-call", {"turns": 15, "starts": 2, "calls": 3, "idles": 0}),
+                             ("08-device", {"turns": 17, "starts": 1, "calls": 1, "rotations": 1, "rings": 1})):
+            counts = json.loads(self.answers("counts", f"examples/{name}.log", "--json"))
+            self.assertEqual({key: {**counts["all"], "rings": counts["rings"]}[key] for key in wanted}, wanted, name)
+
+    def test_changed_pages_interrupts_and_calls_are_told(self):
+        for name, line, other, words, box in (
+                ("04-pages", "turn a.0 frames 0 1 2", "turn a.0 frames 0 1 3", "it was given pages 0 1 3", "box a: reply 3 differs"),
+                ("04-pages", "unit flush", None, "slots 2 to 6 are emptied", "box a: 10 replies, the same in both"),
+                ("05-interrupt", "turn button.0 irq 5", "turn button.0 irq 6", "the interrupt of line 6 is delivered",
+                 "box button: reply 2 differs"),
+                ("06-register-gateway", "turn spy.0 status 9", "turn spy.0 ok 0x00000000", "done, and the value is 0x00000000",
+                 "box led: 4 replies, the same in both"),
+                ("07-remote-call", "turn q.0 status 1", "turn q.0 status 4", "status 4, the thread has no such call to collect",
+                 "box q: reply 3 differs"),
+                ("07-remote-call", "start server.0 q.0#1 ok", "start server.0 p.0#2 ok", "server.0 starts call 2 of p.0, function 7",
+                 "box server: reply 5 differs")):
+            lines = text(f"examples/{name}.log").split("\n")
+            place = next(place for place, read in enumerate(lines) if read.startswith(line))
+            changed = lines[:place] + ([] if other is None else [other + lines[place][len(line):]]) + lines[place + 1:]
+            with tempfile.NamedTemporaryFile("w", suffix=".log") as file, self.subTest(name=name, line=line):
+                file.write("\n".join(changed))
+                file.flush()
+                told = self.answers("log-diff", f"examples/{name}.log", file.name, status=1)
+                self.assertIn(words, told)
+                self.assertIn(box, told)
 
     def test_each_log_is_itself_and_no_other(self):
         paths = inputs()
@@ -166,6 +198,19 @@ class InputEntries(Entries):
             self.refuses("explain", INPUT, wrong)
             self.refuses("slots-at", INPUT, wrong, 1)
             self.refuses("timeline", wrong, INPUT, "--svg")
+
+    def test_what_is_no_moment_is_refused(self):
+        wrong = [["--log", log, "--line", "1"] for log in NO_LOG + [OTHER_LOG]]
+        wrong += [["--log", LOG, "--line", line] for line in ("0", "99", "x", "-1", "01", "1.5")]
+        wrong += [["--log", LOG], ["--line", "1"], ["--log"], ["--log", LOG, "--line"], ["--log", LOG, "--line", "1", "more"]]
+        for given in wrong:
+            self.refuses("who-holds", "0x20000000", INPUT, *given)
+            self.refuses("memory-map", INPUT, *given)
+        for wrong_input in NO_INPUT:
+            self.refuses("who-holds", "0x20000000", wrong_input, "--log", LOG, "--line", "1")
+            self.refuses("memory-map", wrong_input, "--log", LOG, "--line", "1", "--svg")
+        self.refuses("who-holds", "0x20000000", "--log", LOG, "--line", "1", stdin=text(CHECK))
+        self.refuses("memory-map", "--log", LOG, "--line", "1", stdin=text(CHECK))
 
     def test_what_is_no_line_is_refused(self):
         for line in ("0", "99", "x", "-1", "01", "1.5"):
