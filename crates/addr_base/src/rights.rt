@@ -1,5 +1,6 @@
 ghost use Rattle.std.specs.Prelude.{⊤, ◌≡◌, [], ◌∷◌, codes};
-ghost use Rattle.addr_base.specs.Rights.{gives};
+ghost use Rattle.addr_base.specs.Rights.{all_rights, gives, read_execute, read_only, read_write};
+ghost use Rattle.addr_base.specs.declared.rights.TheConstants.Rights.{ALL, READ, READ_EXECUTE, READ_WRITE};
 
 use bitflags::{Flag, Flags};
 
@@ -44,6 +45,14 @@ impl Rights {
             value: Rights::EXECUTE,
         },
     ];
+
+    /// The named sets are those of the definitions.
+    pub fn named_sets()
+        ensures read { READ ≡ read_only }
+        ensures read_write { READ_WRITE ≡ read_write }
+        ensures read_execute { READ_EXECUTE ≡ read_execute }
+        ensures all { ALL ≡ all_rights }
+    {}
 
     /// Whether the set allows this kind of access.
     pub fn gives(&self, kind: Kind) -> bool

@@ -35,8 +35,8 @@ impl Actor<'_> {
     fn post<K: Kernel>(self, kernel: &mut K, thread: &ThreadState, target: BoxId, function: u32)
         requires { CanPost (K.state kernel.old) self.who.thread.0 thread.now.count }
         ensures { K.state kernel.new ≡ after_posting (K.state kernel.old)
-            (posted_call (call_words.own_ticket self.entry.who (thread.now.count + 1)) target function
-            (take 4 thread.now.regs)) }
+            (posted_call (call_words.own_ticket self.entry.who (thread.now.count + 1))
+            target function (take 4 thread.now.regs)) }
     {
         let ticket = self.own_ticket(thread.count + 1);
         kernel.post(ticket, target, function, thread.arguments());

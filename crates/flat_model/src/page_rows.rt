@@ -18,7 +18,8 @@ impl Actor<'_> {
         table: u8,
     ) -> Reply
         ensures exact { spec.kernel_row (K.state kernel.old).config self.entry.who
-            self.entry.part.now (K.state kernel.old).shared thread.old (KernelCall.PagesAlloc n table)
+            self.entry.part.now (K.state kernel.old).shared
+            thread.old (KernelCall.PagesAlloc n table)
             ≡ outcome_of (K.state kernel.new) thread.new result }
         ensures config { (K.state kernel.new).config ≡ (K.state kernel.old).config }
     {

@@ -96,8 +96,10 @@ impl PlainKernel {
     #[tactic(auto, unfolding(crate::specs::Run::opening_state))]
     pub fn opening(alloc: Global, cfg: &Config) -> Result<PlainKernel, OutOfMemory>
         requires { IsSound cfg.now }
-        ensures { IfOk result (λ kernel.
-            kernel ≡ record { config = cfg.now; shared = (run_words.opening_state cfg.now).shared }) }
+        ensures { IfOk result (λ kernel. kernel ≡ record {
+          config = cfg.now;
+          shared = (run_words.opening_state cfg.now).shared;
+        }) }
     {
         let memory = opening_memory(alloc, &cfg.board)?;
         let owners = Items::filled(alloc, None, page_count(&cfg.board.heap) as usize)?;

@@ -56,7 +56,8 @@ fn turn(
         actor.entry.who.home.0 actor.entry.part.now in
         turn_row kernel.old.config actor.entry.who actor.entry.part.now
         actor.entry.program.now.steps kernel.old.shared thread.old
-        (access_granted (unit_words.accessed plan unit.old.unit (touch_in next)) (touch_in next)) next
+        (access_granted
+        (unit_words.accessed plan unit.old.unit (touch_in next)) (touch_in next)) next
         ≡ outcome_of kernel.new thread.new result }
     ensures config { kernel.new.config ≡ kernel.old.config }
     ensures unit { let plan = plan_of kernel.old.config kernel.old.shared.owners

@@ -66,8 +66,10 @@ impl MachineKernel {
     #[tactic(auto, unfolding(flat_model::specs::Run::opening_state))]
     pub fn opening(alloc: Global, cfg: &Config) -> Result<MachineKernel, OutOfMemory>
         requires { IsSound cfg.now }
-        ensures { IfOk result (λ kernel.
-            kernel ≡ record { config = cfg.now; shared = (run_words.opening_state cfg.now).shared }) }
+        ensures { IfOk result (λ kernel. kernel ≡ record {
+          config = cfg.now;
+          shared = (run_words.opening_state cfg.now).shared;
+        }) }
     {
         let banks = Banks::new(alloc, &cfg.board)?;
         let heap = Heap::new(alloc, &cfg.board)?;

@@ -58,7 +58,8 @@ pub(crate) fn blank(banks: &mut Banks, heap: HeapPart, frames: &[u8])
     requires placed { lies_in_one_bank banks.old.board (heap_range heap) ≡ true }
     requires within { AllByRecursion (λ frame. frame < heap.count) frames.now }
     ensures exact { banks.new ≡ with_blank banks.old (Some heap) frames.now }
-    ensures addresses { AllByRecursion (λ frame. page_address (Some heap) frame < 2 ^ 32) frames.now }
+    ensures addresses { AllByRecursion
+        (λ frame. page_address (Some heap) frame < 2 ^ 32) frames.now }
 {
     for frame in frames {
         banks.zero(page_range(heap, *frame));

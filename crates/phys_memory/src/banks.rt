@@ -118,7 +118,8 @@ impl Banks {
     pub fn put(&mut self, a: u32, n: u32, value: u32) -> bool
         requires { n ≤ 4 }
         ensures answer { result ≡ spec.are_in_banks self.old.board a n }
-        ensures exact { self.new ≡ (if result then spec.with_word self.old a n value else self.old) }
+        ensures exact { self.new
+            ≡ (if result then spec.with_word self.old a n value else self.old) }
     {
         let inside = are_in_banks(&self.board, a as u64, n);
         if inside {

@@ -64,8 +64,8 @@ impl Registers {
         ensures cause { is_ok result
             ≡ is_some (register_write self.now banks.old.board banks.old.memory b.0 g value) }
 
-        ensures exact { banks.new
-            ≡ with_written (register_write self.now banks.old.board banks.old.memory b.0 g value) banks.old }
+        ensures exact { banks.new ≡ with_written
+            (register_write self.now banks.old.board banks.old.memory b.0 g value) banks.old }
         ensures err { OnErr result (banks.new ≡ banks.old) }
     {
         let gate = self.gate_for(b, g).ok_or(NotAllowed)?;

@@ -27,7 +27,8 @@ impl Model for Directory {
 
     ghost view = { λ d. d.config.value };
 
-    ghost invariant = { λ d. IsDirectory d.config.value d.gateways.items d.homes.items d.servers.items };
+    ghost invariant = { λ d. IsDirectory d.config.value
+        d.gateways.items d.homes.items d.servers.items };
 }
 
 // The home of each thread.
