@@ -1,6 +1,8 @@
 pub mod Scripting
 pub mod Accept
+pub mod CallLaws
 pub mod CheckText
+pub mod FrameLaws
 pub mod Headline
 pub mod Laws
 pub mod Output
