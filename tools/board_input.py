@@ -42,6 +42,7 @@ class Board:
     peripherals: Range
     secret: Range | None
     heap: Heap | None
+    words: list
 
     @property
     def limit(self):
@@ -128,7 +129,8 @@ def board_of(table):
     """The board of its table."""
     heap = plain(table, "heap")
     return Board(range_of(table, "flash"), range_of(table, "sram"), range_of(table, "peripherals"),
-                 range_of(table, "secret"), Heap(heap["base"], heap["page"], heap["count"]) if heap else None)
+                 range_of(table, "secret"), Heap(heap["base"], heap["page"], heap["count"]) if heap else None,
+                 plain(table, "words", []))
 
 
 def grant_of(table):

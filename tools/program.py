@@ -1,4 +1,5 @@
-"""Runs the program by `scripts/uvisor`, as any caller does."""
+"""Runs the program by `scripts/uvisor`, as any caller does, and finds the build for those that run it very often."""
+import os
 import subprocess
 from pathlib import Path
 
@@ -7,7 +8,18 @@ from tools.refusals import read_refusal
 
 TOP = Path(__file__).resolve().parent.parent
 PROGRAM = TOP / "scripts" / "uvisor"
+BUILD = TOP / "crates" / "uvisor" / "out" / "uvisor"
 ACCEPTED, REFUSED = 0, 1
+
+
+def build_of(named):
+    """The build that an entry runs by itself: the one that is named, else the proved one."""
+    if named is None and not BUILD.exists():
+        raise Wrong("there is no proved build ('rt run' in crates/uvisor makes it), and no other program is named")
+    build = Path(named or BUILD)
+    if not (build.is_file() and os.access(build, os.X_OK)):
+        raise Wrong(f"{build} is no program")
+    return build.resolve()
 
 
 def answered(command, content):

@@ -161,7 +161,7 @@ class Replay:
         irq = item.reply.number if item.reply.word == "irq" else None
         must(irq == self.due_line(state), "another line, or none, is due to be delivered")
         before = None if state.ended or state.waiting or irq is not None else state.instruction
-        if state.waiting:
+        if state.waiting and not state.ended:
             answered = self.calls[item.thread, state.waiting[0]].answered
             must((item.reply.word == "ok") == (answered is not None), "a look gives the result exactly where the call is done")
         if before and before.word in STATUSES:

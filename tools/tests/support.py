@@ -3,6 +3,13 @@ import subprocess
 import unittest
 from pathlib import Path
 
+from tools import placing
+from tools.board_input import input_of
+from tools.check_text import CheckedBox, CheckedThread
+from tools.firmware import Firmware
+from tools.programs import assembled
+from tools.toml_document import Document
+
 TOP = Path(__file__).resolve().parent.parent.parent
 DATA = Path("tools/tests/data")
 BUILD = TOP / "crates" / "uvisor" / "out" / "uvisor"
@@ -42,3 +49,18 @@ def text(path):
 def log_of(path):
     """The log beside an input."""
     return path.with_suffix(".log")
+
+
+def checked(text, box, own):
+    """A box as `check` would resolve it, by the tools alone."""
+    threads = [CheckedThread(f"{box.name}.{place}", thread.steps, [made for _, made in assembled(thread.program.value)])
+               for place, thread in enumerate(box.threads)]
+    return CheckedBox(box.name, placing.items(text.board, box, own), list(box.lines), box.server, threads)
+
+
+def resolved(path):
+    """The accepted input in a file of the repository, without the program."""
+    content = (TOP / path).read_bytes()
+    read = input_of(Document(content.decode()).root)
+    owns = placing.own_ranges(read.board, [box.size for box in read.boxes])
+    return Firmware(str(path), content, [checked(read, box, own) for box, own in zip(read.boxes, owns)])

@@ -13,7 +13,8 @@ EMPTY, BINARY, FOLDER, MISSING = WRONG / "empty", WRONG / "binary", DATA, WRONG 
 REFUSED, REFUSAL = "examples/refused/bad-value.toml", "examples/refused/bad-value.line"
 INPUT, LOG, OTHER_LOG, CHECK = ("examples/03-secret.toml", "examples/03-secret.log", "examples/02-rotation.log",
                                 "examples/03-secret.check")
-ENTRIES = ["counts", "check-docs", "explain", "lint", "log-diff", "memory-map", "schedule", "slots-at", "timeline", "who-holds"]
+ENTRIES = ["counts", "check-docs", "explain", "fuzz", "lint", "log-diff", "memory-map", "schedule", "short-of-memory", "slots-at",
+           "timeline", "who-holds"]
 # What is no log, whatever the entry; and what is no accepted input.
 NO_LOG = [REFUSAL, EMPTY, BINARY, FOLDER, MISSING, INPUT, CHECK]
 NO_INPUT = [REFUSED, EMPTY, BINARY, FOLDER, MISSING, LOG]
