@@ -1,0 +1,7 @@
+pub mod Alone
+pub mod Changes
+pub mod Found
+pub mod Lists
+pub mod Rings
+pub mod Walks
+pub mod Writes
