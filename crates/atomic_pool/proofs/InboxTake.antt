@@ -76,12 +76,12 @@ module _ (n m slots id : ℕ) (p : InboxPart) where
       peeked = λ c e. (i, head, some_is (get_or s.words (2 + i) 0) c e);
     }
 
-    peeked_thread : (i : ℕ) → p.head ≡ Some i → thread_of (get_or s.words (2 + i) 0) < 256
+    peeked_thread : (i : ℕ) → p.head ≡ Some i → (thread_of (get_or s.words (2 + i) 0) < 256) × (thread_of (get_or s.words (2 + i) 0) < p.producers)
     peeked_thread i head =
         let h = mine.head i head in
         let below : thread_of (get_or s.words (2 + i) 0) < n = known-at n rule.took (get_or s.words (2 + i) 0) (tickets s.words h.1.0)
         (subst (All (λ d. thread_of d < n)) (tickets_first i (get_or s.words (2 + i) 0) h.1.0 h.1.1 refl) rule.known) in
-        omega (arith, rule.few)
+        (omega (arith, rule.few), omega (arith, below, mine.producers))
 
     -- the first slot leaves the queue, and its ticket is taken
     dequeue_turns : (i c new w : ℕ) (rest : List ℕ) → p.head ≡ Some i → rule.queue ≡ i ∷ rest → p.peeked ≡ Some c → get_or s.words (2 + i) 0 ≡ c → p.number ≡ n → new ≡ encode rest
@@ -156,7 +156,7 @@ module _ (n m slots id : ℕ) (p : InboxPart) where
         keeps,
         tt,
         load_kept n m s id p rule at (2 + i) (peeked_part (get_or s.words (2 + i) 0) p) (peek_turns s rule at i head),
-        (refl, peeked_thread s rule at i head),
+        (let known = peeked_thread s rule at i head in (refl, known.0, known.1)),
       ))
 
   pub dequeue_kept : (i c old new : ℕ) → p.head ≡ Some i → p.peeked ≡ Some c → new ≡ old / 16

@@ -53,9 +53,10 @@ abbrev pub looks_head : Step Unit → Sat → ℕ → Sat → Type 0
 looks_head st m r m' = (r ≡ 0 → Becomes (queue_looked r) m m')
     × (r ≢ 0 → Becomes (headed_part r) m m' × (0 < r % 16) × (head_of r < (only_part m.0).slots))
 
--- the consumer's load of a ticket word
+-- the consumer's load of a ticket word, whose ticket is a producer's
 abbrev pub peeks : Step Unit → Sat → ℕ → Sat → Type 0
 peeks st m r m' = Becomes (peeked_part r) m m' × (thread_of r < 256)
+    × (thread_of r < (only_part m.0).producers)
 
 -- an exchange of the word of queued slots for the one without the first slot
 abbrev pub dequeues : Step Unit → Sat → ℕ → Sat → Type 0

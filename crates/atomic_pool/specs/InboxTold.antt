@@ -86,11 +86,12 @@ took_part c word found p = record p {
   queue = after_fetch word (after_load word p.queue);
 }
 
--- What a take did. It is vacant only where its load gave 0, and again only where two words differ.
+-- What a take did. A ticket is a producer's. It is vacant only where its load gave 0, and again
+-- only where two words differ.
 abbrev pub HasTook : InboxValue → SeatValue → Took → SeatValue → Type 0
 HasTook inbox before (took.Taken t) after = (word found : ℕ) × (word ≢ 0)
     × (after ≡ with_part before (took_part (code t.ticket) word found before.part))
-    × (t.inbox ≡ inbox)
+    × (t.inbox ≡ inbox) × (t.ticket.thread.0 < before.part.producers)
 HasTook inbox before (took.Vacant v) after =
     (after ≡ with_part before (queue_looked 0 before.part)) × (v.inbox ≡ inbox)
 HasTook inbox before (took.Again seen found) after = (found ≢ seen)

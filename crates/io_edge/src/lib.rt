@@ -1,7 +1,9 @@
-//! What the program reads from and writes to: sources and sinks that count their faults.
+//! What the program reads from and writes to: sources and sinks that count their faults. And the
+//! gates that its workers pass.
 #![tactic(auto)]
 
 mod ends;
+mod gates;
 mod sinks;
 mod sources;
 mod streams;
@@ -10,6 +12,7 @@ mod tests;
 mod whole;
 
 pub use ends::{Pulled, Pushed, Sink, Source};
+pub use gates::{Gate, HoldGate, NoGate};
 pub use sinks::{MemSink, NullSink};
 pub use sources::{MemSource, SureSource};
 pub use streams::{StdinSource, StdoutSink};

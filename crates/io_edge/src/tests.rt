@@ -1,3 +1,5 @@
+mod gates;
+
 use crate::{
     MemSink, MemSource, NullSink, ReadErr, StdinSource, StdoutSink, SureSource, WriteErr, read_all,
     write_all,

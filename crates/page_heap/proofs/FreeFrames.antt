@@ -1,85 +1,78 @@
--- How far the search for frames without an owner has come.
-use Rattle.std.proofs.Common.{◌≡◌, ℕ, zero, suc, ◌+◌, ◌-◌, ◌<◌, ◌≤◌, true, false, Option, Some, None, List, [], ◌∷◌, ◌++◌, length, take, drop, refl, sym, ap, ◌∙◌, subst, arith, length-append, append_assoc}
+-- The free frames of a heap: which they are at first, once the least is given, and once one comes back.
+use Rattle.std.proofs.Common.{◌≡◌, ℕ, zero, suc, ◌+◌, ◌-◌, ◌<◌, ◌≤◌, true, false, cond, ltb, Option, Some, None, get_or, List, [], ◌∷◌, ◌++◌, length, take, replicate, refl, sym, ap, ◌∙◌, subst, arith}
 use Rattle.std.specs.List.{AllByRecursion, slice_set}
-use Rattle.std.specs.Option.{is_some}
-use Rattle.std.proofs.lemmas.List.{append-nil, drop_all, drop_more, length-set}
-use Rattle.std.proofs.Math.ListN.{get_or}
-use Rattle.std.proofs.Math.Seq.{take-nil}
+use Rattle.std.proofs.lemmas.Bool.{le-ltb, lt-ltb}
+use Rattle.std.proofs.lemmas.List.{length-set}
 use Rattle.addr_base.specs.declared.identity.BoxId.{BoxId}
 use Rattle.flat_model.specs.Pages.{free_frames, with_owner}
+use Rattle.page_heap.specs.Listed.{with_place}
 
--- the frames that were found, and as many of those that are left as are still wanted, are the least free ones
-pub record IsFinding (owners : List (Option BoxId)) (n at : ℕ) (found : List ℕ) : Type 0 where
-  pub few : length found ≤ n
-  pub so_far : found ++ take (n - length found) (free_frames at (drop at owners)) ≡ take n (free_frames 0 owners)
+-- one more frame without an owner is the last free one
+pub free_frames-more : (k n : ℕ) → free_frames k (replicate (suc n) None) ≡ free_frames k (replicate n None) ++ (k + n) ∷ []
+free_frames-more k zero = let same : k ≡ k + 0 = omega arith in ap (λ m. m ∷ []) same
+free_frames-more k (suc n) =
+    let same : (k + 1) + n ≡ k + suc n = omega arith in
+    ap (λ fs. k ∷ fs) (free_frames-more (k + 1) n ∙ ap (λ m. free_frames (k + 1) (replicate n None) ++ m ∷ []) same)
 
--- at first none was found
-pub IsFinding-start : (owners : List (Option BoxId)) (n : ℕ) → IsFinding owners n 0 []
-IsFinding-start owners n = record {
-  few = omega arith;
-  so_far = let all_wanted : n - 0 ≡ n = omega arith in ap (λ k. take k (free_frames 0 owners)) all_wanted;
-}
+-- the least free frame, and what is free once a box owns it
+pub record IsLeast (k : ℕ) (owners : List (Option BoxId)) (frame : ℕ) (rest : List ℕ) (owner : Option BoxId) : Type 0 where
+  pub place : ℕ
+  pub at : frame ≡ k + place
+  pub within : place < length owners
+  pub no_owner : get_or owners place None ≡ None
+  pub others : free_frames k (slice_set owners place owner) ≡ rest
 
-free_frames-free : (k : ℕ) (owner : Option BoxId) (owners : List (Option BoxId)) → is_some owner ≡ false →
-    free_frames k (owner ∷ owners) ≡ k ∷ free_frames (k + 1) owners
-free_frames-free k None owners free = refl
-free_frames-free k (Some b) owners free = absurd (cc)
-
-free_frames-owned : (k : ℕ) (owner : Option BoxId) (owners : List (Option BoxId)) → is_some owner ≡ true →
-    free_frames k (owner ∷ owners) ≡ free_frames (k + 1) owners
-free_frames-owned k None owners owned = absurd (cc)
-free_frames-owned k (Some b) owners owned = refl
-
--- a frame without an owner is one more
-pub IsFinding-free : (owners : List (Option BoxId)) (n at : ℕ) (found : List ℕ) → at < length owners →
-    is_some (get_or owners at None) ≡ false → length found < n →
-    IsFinding owners n at found → IsFinding owners n (at + 1) (found ++ at ∷ [])
-IsFinding-free owners n at found within free wanted it =
-    let longer : length (found ++ at ∷ []) ≡ length found + 1 = length-append found (at ∷ []) in
-    let later = free_frames (at + 1) (drop (at + 1) owners) in
-    let here : free_frames at (drop at owners) ≡ at ∷ later =
-    ap (free_frames at) (drop_more owners at None within)
-    ∙ free_frames-free at (get_or owners at None) (drop (at + 1) owners) free in
-    let one_less : n - length found ≡ suc (n - length (found ++ at ∷ [])) = omega (arith, longer) in
+pub least_given : (k : ℕ) (owners : List (Option BoxId)) (frame : ℕ) (rest : List ℕ) (b : BoxId) →
+    free_frames k owners ≡ frame ∷ rest → IsLeast k owners frame rest (Some b)
+least_given k [] frame rest b is = absurd (cc)
+least_given k (None ∷ owners) frame rest b is =
+    let first : k ≡ frame = cc in
+    let others : free_frames (k + 1) owners ≡ rest = cc in
+    record { place = 0; at = omega arith; within = omega arith; no_owner = refl; others = others }
+least_given k (Some o ∷ owners) frame rest b is =
+    let later = least_given (k + 1) owners frame rest b is in
     record {
-      few = omega (arith, longer);
-      so_far =
-          append_assoc found (at ∷ []) (take (n - length (found ++ at ∷ [])) later)
-          ∙ ap (λ k. found ++ take k (at ∷ later)) (sym one_less)
-          ∙ ap (λ fs. found ++ take (n - length found) fs) (sym here)
-          ∙ it.so_far;
+      place = suc later.place;
+      at = omega (arith, later.at);
+      within = omega (arith, later.within);
+      no_owner = later.no_owner;
+      others = later.others;
     }
 
--- a frame that has an owner is passed over
-pub IsFinding-owned : (owners : List (Option BoxId)) (n at : ℕ) (found : List ℕ) → at < length owners →
-    is_some (get_or owners at None) ≡ true →
-    IsFinding owners n at found → IsFinding owners n (at + 1) found
-IsFinding-owned owners n at found within owned it = record {
-  few = it.few;
-  so_far =
-      ap (λ fs. found ++ take (n - length found) fs) (sym (
-      ap (free_frames at) (drop_more owners at None within)
-      ∙ free_frames-owned at (get_or owners at None) (drop (at + 1) owners) owned))
-      ∙ it.so_far;
-}
+placed_first : (n k : ℕ) (owners : List (Option BoxId)) → n < k → with_place n (free_frames k owners) ≡ n ∷ free_frames k owners
+placed_first n k [] below = refl
+placed_first n k (None ∷ owners) below =
+    let later = free_frames (k + 1) owners in
+    ap (λ b. cond b (n ∷ k ∷ later) (k ∷ with_place n later)) (lt-ltb n k below)
+placed_first n k (Some o ∷ owners) below = placed_first n (k + 1) owners (omega arith)
 
--- where enough were found they are the least free ones
-pub found_enough : (owners : List (Option BoxId)) (n at : ℕ) (found : List ℕ) → length found ≡ n →
-    IsFinding owners n at found → found ≡ take n (free_frames 0 owners)
-found_enough owners n at found enough it =
-    let none_wanted : n - length found ≡ 0 = omega arith in
-    sym (append-nil found)
-    ∙ ap (λ k. found ++ take k (free_frames at (drop at owners))) (sym none_wanted)
-    ∙ it.so_far
+-- a frame that comes back is free in its place
+pub free_again : (k : ℕ) (owners : List (Option BoxId)) (place : ℕ) (b : BoxId) → place < length owners →
+    get_or owners place None ≡ Some b →
+    free_frames k (slice_set owners place None) ≡ with_place (k + place) (free_frames k owners)
+free_again k [] place b within owned = absurd (omega arith)
+free_again k (None ∷ owners) zero b within owned = absurd (cc)
+free_again k (Some o ∷ owners) zero b within owned =
+    let same : k ≡ k + 0 = omega arith in
+    sym (placed_first k (k + 1) owners (omega arith)) ∙ ap (λ n. with_place n (free_frames (k + 1) owners)) same
+free_again k (None ∷ owners) (suc place) b within owned =
+    let same : (k + 1) + place ≡ k + suc place = omega arith in
+    let later = free_frames (k + 1) owners in
+    let n = k + suc place in
+    ap (λ fs. k ∷ fs) (free_again (k + 1) owners place b (omega arith) owned ∙ ap (λ m. with_place m later) same)
+    ∙ sym (ap (λ b. cond b (n ∷ k ∷ later) (k ∷ with_place n later)) (le-ltb n k (omega arith)))
+free_again k (Some o ∷ owners) (suc place) b within owned =
+    let same : (k + 1) + place ≡ k + suc place = omega arith in
+    free_again (k + 1) owners place b (omega arith) owned ∙ ap (λ m. with_place m (free_frames (k + 1) owners)) same
 
--- where no frame is left they are all free ones
-pub found_all : (owners : List (Option BoxId)) (n at : ℕ) (found : List ℕ) → length owners ≤ at →
-    IsFinding owners n at found → found ≡ take n (free_frames 0 owners)
-found_all owners n at found past it =
-    sym (append-nil found)
-    ∙ ap (λ fs. found ++ fs) (sym (take-nil (n - length found)))
-    ∙ ap (λ rest. found ++ take (n - length found) (free_frames at rest)) (sym (drop_all at owners past))
-    ∙ it.so_far
+-- one number more
+pub length-with_place : (n : ℕ) (xs : List ℕ) → length (with_place n xs) ≡ length xs + 1
+length-with_place n [] = refl
+length-with_place n (x ∷ xs) =
+    elim (ltb n x) as (λ b. length (cond b (n ∷ x ∷ xs) (x ∷ with_place n xs)) ≡ suc (length xs) + 1) [
+      | true ↦ omega arith
+      | false ↦ omega (arith, length-with_place n xs)
+    ]
 
 below_more : (k n : ℕ) (frames : List ℕ) → AllByRecursion (λ frame. frame < k + 1 + n) frames →
     AllByRecursion (λ frame. frame < k + suc n) frames
@@ -114,3 +107,20 @@ pub with_owner_length : (owner : Option BoxId) (frames : List ℕ) (owners : Lis
 with_owner_length owner [] owners = refl
 with_owner_length owner (frame ∷ frames) owners =
     with_owner_length owner frames (slice_set owners frame owner) ∙ length-set owners frame owner
+
+-- one more frame gets the owner
+pub with_owner-last : (owner : Option BoxId) (frames : List ℕ) (frame : ℕ) (owners : List (Option BoxId)) →
+    with_owner owner (frames ++ frame ∷ []) owners ≡ slice_set (with_owner owner frames owners) frame owner
+with_owner-last owner [] frame owners = refl
+with_owner-last owner (f ∷ frames) frame owners = with_owner-last owner frames frame (slice_set owners f owner)
+
+-- where no frame has an owner all are free
+pub length-all_free : (k n : ℕ) → length (free_frames k (replicate n None)) ≡ n
+length-all_free k zero = refl
+length-all_free k (suc n) = ap suc (length-all_free (k + 1) n)
+
+-- there are no more free frames than frames
+pub length-free : (k : ℕ) (owners : List (Option BoxId)) → length (free_frames k owners) ≤ length owners
+length-free k [] = omega arith
+length-free k (None ∷ owners) = omega (arith, length-free (k + 1) owners)
+length-free k (Some b ∷ owners) = omega (arith, length-free (k + 1) owners)

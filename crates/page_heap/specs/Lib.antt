@@ -1,3 +1,3 @@
-pub mod Fixture
 pub mod Heap
 pub mod Kept
+pub mod Listed

@@ -1,43 +1,13 @@
-ghost use Rattle.std.specs.Prelude.{◌≡◌, ◌*◌, ◌+◌, ◌^◌, ◌<◌, ◌≤◌, Some, None, true, [], IfSome, length, take};
+ghost use Rattle.std.specs.Prelude.{◌≡◌, ◌*◌, ◌+◌, ◌^◌, ◌<◌, Some, None, true, IfSome};
 ghost use Rattle.std.specs.List.{AllByRecursion};
 ghost use Rattle.flat_model.specs.Access as access_words;
-ghost use Rattle.flat_model.specs.Pages.{frame_at, frame_in, free_frames, page_address, with_owner};
+ghost use Rattle.flat_model.specs.Pages.{frame_at, frame_in, page_address};
 ghost use Rattle.phys_memory.specs.Banks.{lies_in_one_bank};
 ghost use Rattle.page_heap.specs.Heap.{heap_range, with_blank};
 ghost use Rattle.page_heap.specs.Kept.{IsPaged};
 
-use arrayvec::ArrayVec;
-use flat_model::{BoxId, HeapPart, Items, Range};
+use flat_model::{BoxId, HeapPart, Range};
 use phys_memory::Banks;
-
-/// Lists the least frames without an owner, at most `n` of them, ascending.
-pub(crate) fn find_free(owners: &[Option<BoxId>], n: usize, out: &mut ArrayVec<u8, 16>)
-    requires empty { out.old.items ≡ [] }
-    requires few { length owners.now ≤ 256 }
-    requires room { n ≤ 16 }
-    ensures exact { out.new.items ≡ take n (free_frames 0 owners.now) }
-    ensures within { AllByRecursion (λ frame. frame < length owners.now) out.new.items }
-{
-    for (frame, owner) in owners.iter().enumerate() {
-        if out.len() == n {
-            return;
-        }
-        if owner.is_none() {
-            out.push(frame as u8);
-        }
-    }
-}
-
-/// Gives frames to a box.
-#[tactic(auto, using(crate::proofs::FreeFrames::with_owner_length))]
-pub(crate) fn give(owners: &mut Items<Option<BoxId>>, b: BoxId, frames: &[u8])
-    ensures exact { owners.new ≡ with_owner (Some b) frames.now owners.old }
-    ensures one_each { length owners.new ≡ length owners.old }
-{
-    for frame in frames {
-        owners.put(*frame as usize, Some(b));
-    }
-}
 
 // The addresses of a frame's page.
 fn page_range(heap: HeapPart, frame: u8) -> Range

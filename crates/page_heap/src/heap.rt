@@ -5,9 +5,11 @@ ghost use Rattle.flat_model.specs.Pages.{HasOwners, allocation, frame_at, free_f
 ghost use Rattle.flat_model.specs.Sound.{IsBoard};
 ghost use Rattle.page_heap.specs.Heap.{LiesInBank, opening_heap, page_count, status_of, with_blank, with_given};
 
-use crate::frames::{blank, find_free, frame_at, give, is_of};
+use crate::frames::{blank, frame_at, is_of};
+use crate::lists::{LISTS, all_free, give_least, take_back};
 use arrayvec::ArrayVec;
 use flat_model::{Board, BoxId, HeapPart, Items, OutOfMemory, PageErr, page_count};
+use index_list::Arena;
 use phys_memory::Banks;
 use std::alloc::Global;
 use std::marker::Model;
@@ -20,17 +22,19 @@ const MOST: u32 = 16;
 pub struct Heap {
     heap: Option<HeapPart>,
     owners: Items<Option<BoxId>>,
+    frames: Arena,
+    free: usize,
 }
 
 impl Model for Heap {
     ghost use Rattle.page_heap.specs.Heap.{HeapView};
-    ghost use Rattle.page_heap.specs.Kept.{IsKept};
+    ghost use Rattle.page_heap.specs.Listed.{AreListed};
 
     ghost Value = { HeapView };
 
     ghost view = { λ h. record { heap = h.heap; owners = h.owners } };
 
-    ghost invariant = { λ h. IsKept h.heap h.owners };
+    ghost invariant = { λ h. AreListed h.heap h.owners h.frames h.free };
 }
 
 impl Heap {
@@ -40,10 +44,14 @@ impl Heap {
         ensures opening { IfOk result (λ heap. heap ≡ opening_heap board.now) }
         ensures placed { LiesInBank board.now board.now.heap }
     {
-        let owners = Items::filled(alloc, None, page_count(&board.heap) as usize)?;
+        let count = page_count(&board.heap);
+        let owners = Items::filled(alloc, None, count as usize)?;
+        let frames = all_free(alloc, count, LISTS)?;
         Ok(Heap {
             heap: board.heap,
             owners,
+            frames,
+            free: count as usize,
         })
     }
 
@@ -85,12 +93,11 @@ impl Heap {
         let Some(heap) = self.heap else {
             return Err(PageErr::OutOfPages);
         };
-        find_free(self.owners.as_slice(), n as usize, out);
-        if out.len() < n as usize {
-            out.clear();
+        if self.free < n as usize {
             return Err(PageErr::OutOfPages);
         }
-        give(&mut self.owners, b, out.as_slice());
+        give_least(&mut self.frames, &mut self.owners, b, n as usize, out);
+        self.free -= n as usize;
         blank(banks, heap, out.as_slice());
         Ok(())
     }
@@ -117,7 +124,8 @@ impl Heap {
         if !is_of(self.owners.at(frame as usize), b) {
             return Err(PageErr::NotOwner);
         }
-        self.owners.set(frame as usize, None);
+        take_back(&mut self.frames, &mut self.owners, self.free, b, frame);
+        self.free += 1;
         Ok(frame)
     }
 

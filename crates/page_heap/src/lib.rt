@@ -3,6 +3,7 @@
 
 mod frames;
 mod heap;
+mod lists;
 #[cfg(test)]
 mod tests;
 

@@ -1,11 +1,11 @@
-ghost use Rattle.std.specs.Prelude.{◌≡◌};
 ghost use Rattle.flat_model.specs.Sound.{IsBoard};
-ghost use Rattle.page_heap.specs.Fixture as fixture;
+ghost use Rattle.sample_board.specs.Sample as sample;
 
 use crate::Heap;
 use arrayvec::ArrayVec;
-use flat_model::{Board, BoxId, HeapPart, Items, OutOfMemory, PageErr, Range};
+use flat_model::{BoxId, HeapPart, OutOfMemory, PageErr};
 use phys_memory::Banks;
+use sample_board::board;
 use std::alloc::Global;
 use std::marker::Model;
 use std::test::Fail;
@@ -31,28 +31,6 @@ const GREATEST: Option<HeapPart> = Some(HeapPart {
     count: 8,
 });
 
-fn board(alloc: Global, sram: u32, heap: Option<HeapPart>) -> Board
-    ensures { result ≡ fixture.board sram heap }
-{
-    Board {
-        flash: Range {
-            base: 0,
-            len: 0x10_0000,
-        },
-        sram: Range {
-            base: 0x2000_0000,
-            len: sram,
-        },
-        peripherals: Range {
-            base: 0x4000_0000,
-            len: 0x10_0000,
-        },
-        secret: None,
-        words: Items::from_vec(Vec::new(alloc)),
-        heap,
-    }
-}
-
 // The banks and the page heap of a board.
 #[derive(Drop)]
 struct Memory {
@@ -74,7 +52,7 @@ impl Model for Memory {
 impl Memory {
     // That of a board with so much SRAM and this heap.
     fn opened(alloc: Global, sram: u32, heap: Option<HeapPart>) -> Result<Memory, OutOfMemory>
-        requires { IsBoard (fixture.board sram heap) }
+        requires { IsBoard (sample.board sram heap) }
     {
         let board = board(alloc, sram, heap);
         let banks = Banks::new(alloc, &board)?;
@@ -198,6 +176,19 @@ fn the_heap_runs_out(rt: HostRuntime) -> Result<(), Fail> {
         let asked = memory.ask(0, n);
         assert_eq!(rt; asked.err(), Some(refusal), "{n} pages");
     }
+    Ok(())
+}
+
+#[test]
+#[tactic(auto, using(crate::proofs::FixtureSound::sound_kibibytes))]
+fn freed_pages_come_in_the_order_of_their_addresses(rt: HostRuntime) -> Result<(), Fail> {
+    let mut memory = Memory::opened(rt.alloc(), 0x2_0000, KIBIBYTES)?;
+    let six = memory.ask(0, 6);
+    assert_eq!(rt; given(&six), &[0, 1, 2, 3, 4, 5][..]);
+    assert_eq!(rt; memory.free(0, 0x2000_9000), Ok(4));
+    assert_eq!(rt; memory.free(0, 0x2000_8400), Ok(1));
+    let two = memory.ask(1, 2);
+    assert_eq!(rt; given(&two), &[1, 4][..]);
     Ok(())
 }
 

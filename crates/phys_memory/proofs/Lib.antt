@@ -1,2 +1,5 @@
 pub mod BankLemmas
+pub mod ByteLemmas
 pub mod OneBankLemmas
+pub mod PackedLemmas
+pub mod PieceLemmas

@@ -1,12 +1,12 @@
 -- A word that lies in one bank is a word of that bank.
-use Rattle.std.proofs.Common.{◌≡◌, ℕ, zero, suc, ◌+◌, ◌-◌, ◌*◌, ◌/◌, ◌%◌, ◌<◌, true, false, List, refl, sym, ap, ◌∙◌, arith}
+use Rattle.std.proofs.Common.{◌≡◌, ℕ, zero, suc, ◌+◌, ◌-◌, ◌*◌, ◌/◌, ◌%◌, ◌<◌, true, false, List, ◌∷◌, refl, sym, ap, ◌∙◌, arith}
 use Rattle.std.specs.List.{slice_index, slice_set}
 use Rattle.std.proofs.lemmas.Bool.Decides.{nat_tests}
 use Rattle.addr_base.specs.Range.{holds_bytes, in_range}
 use Rattle.addr_base.specs.declared.ranges.Range.{Range}
 use Rattle.flat_model.specs.declared.boards.Board.{Board}
 use Rattle.flat_model.specs.declared.states.Memory.{Memory}
-use Rattle.flat_model.specs.Cells.{Cell, cells_of, word_of}
+use Rattle.flat_model.specs.Cells.{Cell, cells_of, word_of, zero_cells}
 use Rattle.flat_model.specs.Memory.{byte_at, put_byte, put_cells, put_word, word_at}
 use Rattle.phys_memory.specs.OneBank.{in_flash, in_peripherals, in_sram, is_apart, with_bytes}
 
@@ -24,7 +24,7 @@ offset range a n k holds below = grind (arith, nat_tests)
 -- ---- reading
 
 -- words of two maps that have the same bytes
-words-same : (f g : ℕ → ℕ) (a b n : ℕ) → ((k : ℕ) → k < n → f (a + k) ≡ g (b + k)) → word_of f a n ≡ word_of g b n
+pub words-same : (f g : ℕ → ℕ) (a b n : ℕ) → ((k : ℕ) → k < n → f (a + k) ≡ g (b + k)) → word_of f a n ≡ word_of g b n
 words-same f g a b zero same = refl
 words-same f g a b (suc n) same =
     let first : f a ≡ g b = same-first in
@@ -167,3 +167,22 @@ put_peripherals board memory a n value is =
     (outside board.flash a n k (apart-flash board memory a n is) below) (outside board.sram a n k (apart-ram board memory a n is) below)
     (inside board.peripherals a n k (holds-peripherals board memory a n is) below)
     ∙ ap (λ x. record memory { peripherals = slice_set bytes x v }) (offset board.peripherals a n k (holds-peripherals board memory a n is) below))
+
+-- ---- zero bytes
+
+-- zero bytes are the bytes of zero
+pub zero_cells-are : (a n : ℕ) → zero_cells a n ≡ cells_of a n 0
+zero_cells-are a zero = refl
+zero_cells-are a (suc n) = let first : Cell = record { at = a; value = 0 } in ap (λ cells. first ∷ cells) (zero_cells-are (a + 1) n)
+
+pub zero_flash : (board : Board) (memory : Memory) (a n : ℕ) → in_flash board a n ≡ true →
+    put_cells board memory (zero_cells a n) ≡ record memory { flash = with_bytes memory.flash (a - board.flash.base) n 0 }
+zero_flash board memory a n is = ap (put_cells board memory) (zero_cells-are a n) ∙ put_flash board memory a n 0 is
+
+pub zero_sram : (board : Board) (memory : Memory) (a n : ℕ) → in_sram board a n ≡ true →
+    put_cells board memory (zero_cells a n) ≡ record memory { sram = with_bytes memory.sram (a - board.sram.base) n 0 }
+zero_sram board memory a n is = ap (put_cells board memory) (zero_cells-are a n) ∙ put_sram board memory a n 0 is
+
+pub zero_peripherals : (board : Board) (memory : Memory) (a n : ℕ) → in_peripherals board a n ≡ true →
+    put_cells board memory (zero_cells a n) ≡ record memory { peripherals = with_bytes memory.peripherals (a - board.peripherals.base) n 0 }
+zero_peripherals board memory a n is = ap (put_cells board memory) (zero_cells-are a n) ∙ put_peripherals board memory a n 0 is

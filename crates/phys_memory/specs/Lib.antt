@@ -1,2 +1,4 @@
+pub mod Across
 pub mod Banks
 pub mod OneBank
+pub mod Packed

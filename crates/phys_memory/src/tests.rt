@@ -22,7 +22,9 @@ const PERIPHERALS: Range = Range {
 
 // A board with one word in its peripherals.
 fn board(alloc: Global) -> Result<Board, OutOfMemory>
-    ensures { IfOk result (λ board. board.sram ≡ record { base = 536870912; len = 131072 }) }
+    ensures sram { IfOk result (λ board. board.sram ≡ record { base = 536870912; len = 131072 }) }
+    ensures peripherals { IfOk result (λ board. board.peripherals
+        ≡ record { base = 1073741824; len = 1048576 }) }
 {
     let word = Word {
         at: 0x4000_0100,
@@ -119,5 +121,86 @@ fn a_range_of_zero_bytes_has_two_ends(rt: HostRuntime) -> Result<(), Fail> {
     ] {
         assert_eq!(rt; banks.load(a, 4), value, "at {a}");
     }
+    Ok(())
+}
+
+#[test]
+fn bytes_beside_a_put_into_a_marked_piece_are_zero(rt: HostRuntime) -> Result<(), Fail> {
+    let board = board(rt.alloc())?;
+    let mut banks = Banks::new(rt.alloc(), &board)?;
+    banks.store(0x4000_0044, 4, 0x1122_3344);
+    banks.store(0x4000_005C, 4, 0x5566_7788);
+    banks.zero(Range {
+        base: 0x4000_0040,
+        len: 64,
+    });
+    banks.store(0x4000_0046, 1, 0xAB);
+    for (a, value) in [
+        (0x4000_0040, 0),
+        (0x4000_0044, 0x00AB_0000),
+        (0x4000_0048, 0),
+        (0x4000_005C, 0),
+    ] {
+        assert_eq!(rt; banks.load(a, 4), value, "at {a}");
+    }
+    Ok(())
+}
+
+#[test]
+fn zero_bytes_begin_and_end_inside_pieces(rt: HostRuntime) -> Result<(), Fail> {
+    let board = board(rt.alloc())?;
+    let mut banks = Banks::new(rt.alloc(), &board)?;
+    for k in 0..32 {
+        banks.store(0x2000_0100 + 4 * k, 4, 0xFFFF_FFFF);
+    }
+    // Three pieces, of which the first and the last keep some bytes.
+    banks.zero(Range {
+        base: 0x2000_0105,
+        len: 0x55,
+    });
+    for (a, value) in [
+        (0x2000_0100, 0xFFFF_FFFF),
+        (0x2000_0104, 0x0000_00FF),
+        (0x2000_0108, 0),
+        (0x2000_011C, 0),
+        (0x2000_0120, 0),
+        (0x2000_013C, 0),
+        (0x2000_0140, 0),
+        (0x2000_0158, 0xFFFF_0000),
+        (0x2000_015C, 0xFFFF_FFFF),
+        (0x2000_0160, 0xFFFF_FFFF),
+    ] {
+        assert_eq!(rt; banks.load(a, 4), value, "at {a}");
+    }
+    Ok(())
+}
+
+#[test]
+fn a_bank_may_end_inside_a_piece(rt: HostRuntime) -> Result<(), Fail> {
+    let board = Board {
+        flash: FLASH,
+        sram: Range {
+            base: 0x2000_0000,
+            len: 42,
+        },
+        peripherals: PERIPHERALS,
+        secret: None,
+        words: Items::from_vec(Vec::new(rt.alloc())),
+        heap: None,
+    };
+    let mut banks = Banks::new(rt.alloc(), &board)?;
+    assert!(rt; banks.put(0x2000_0026, 4, 0x1122_3344));
+    assert!(rt; !banks.put(0x2000_0027, 4, 0xFFFF_FFFF));
+    for (a, n, value) in [
+        (0x2000_0028, 2, Some(0x1122)),
+        (0x2000_0028, 4, None),
+        (0x2000_0029, 1, Some(0x11)),
+        (0x2000_002A, 1, None),
+        (0x2000_0020, 4, Some(0)),
+    ] {
+        assert!(rt; n <= 4);
+        assert_eq!(rt; banks.get(a, n), value, "{n} bytes at {a}");
+    }
+    assert_eq!(rt; banks.load(0x2000_0028, 4), 0x1122);
     Ok(())
 }

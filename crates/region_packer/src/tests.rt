@@ -1,6 +1,7 @@
-use crate::{cover, group};
+use crate::{Directory, cover, group};
 use arrayvec::ArrayVec;
-use flat_model::{Pair, Range, Rights};
+use flat_model::{Item, Pair, Range, Rights};
+use std::test::Fail;
 
 #[test]
 fn seven_blocks_of_32_bytes_are_three_regions(rt: HostRuntime) {
@@ -66,4 +67,48 @@ fn a_group_disables_the_pages_without_a_bit(rt: HostRuntime) {
     };
     assert_eq!(rt; group(0x2000_8000, 1024, 0x05), Some(two));
     assert_eq!(rt; group(0x2000_8000, 1024, 0), None);
+}
+
+#[test]
+fn a_directory_has_the_blocks_by_their_addresses(rt: HostRuntime) -> Result<(), Fail> {
+    let high = Item {
+        range: Range {
+            base: 0x4000_0020,
+            len: 0xE0,
+        },
+        rights: Rights::READ_WRITE,
+    };
+    let lowest = Item {
+        range: Range {
+            base: 0x2000_0400,
+            len: 0x20,
+        },
+        rights: Rights::READ,
+    };
+    let grants = vec![in rt.alloc(); high, lowest]?;
+    let mut directory = Directory::new(rt.alloc(), &grants)?;
+    assert_eq!(rt; directory.len(), 4);
+    assert_eq!(rt; directory.probes(), 0);
+    let expected = [
+        (0x2000_0400, 0x20, 0x1600_0009),
+        (0x4000_0020, 0x20, 0x1300_0009),
+        (0x4000_0040, 0x40, 0x1300_000B),
+        (0x4000_0080, 0x80, 0x1300_000D),
+    ];
+    for i in 0..4 {
+        assert!(rt; i < directory.len());
+        let block = directory.probe(i);
+        let (base, len, rasr) = expected[i as usize];
+        assert_eq!(rt; block.part, Range { base, len }, "block {i}");
+        assert_eq!(rt; block.pair, Pair { rbar: base, rasr }, "block {i}");
+    }
+    assert_eq!(rt; directory.probes(), 4);
+    Ok(())
+}
+
+#[test]
+fn a_directory_of_no_grants_has_no_blocks(rt: HostRuntime) -> Result<(), Fail> {
+    let directory = Directory::new(rt.alloc(), &Vec::new(rt.alloc()))?;
+    assert_eq!(rt; directory.len(), 0);
+    Ok(())
 }

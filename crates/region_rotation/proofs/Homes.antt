@@ -15,7 +15,7 @@ use Rattle.flat_model.proofs.Covers.{OfCover, each-cover_of, is_region-hidden, i
 use Rattle.flat_model.proofs.Elements.{each-flat_map, each-from_get, each-get, each-map, each_weaker}
 use Rattle.flat_model.proofs.Placed.{IsGrouped-from, IsPlaced, IsPlaced-from_sound, IsSecretOf, IsTiledGrant, grant_ends}
 use Rattle.flat_model.proofs.Powers.{at_least_32}
-use Rattle.region_rotation.specs.Coverable.{IsCoverable}
+use Rattle.region_packer.specs.Directory.{IsCoverable}
 use Rattle.region_rotation.specs.Ready.{IsHeapBelow, IsHome, IsKnown}
 use Rattle.region_rotation.specs.Rotation.{home_pairs}
 

@@ -1,5 +1,9 @@
+pub mod Answering
+pub mod Beside
 pub mod Groups
+pub mod Halving
 pub mod Homes
-pub mod SampleLemmas
+pub mod Searched
 pub mod Serving
+pub mod Spreading
 pub mod Turns

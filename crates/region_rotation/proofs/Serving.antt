@@ -14,16 +14,6 @@ module _ (a : ℕ) (kind : Kind) where
   pub first_serving-past : (p : Pair) (ps : List Pair) → serves a kind p ≡ false → first_serving a kind (p ∷ ps) ≡ first_serving a kind ps
   first_serving-past p ps off = ap (λ t. if t then Some p else first_serving a kind ps) off
 
-  -- the element at an index serves
-  pub first_serving-drop_here : (ps : List Pair) (i : ℕ) (d : Pair) → i < length ps → serves a kind (get_or ps i d) ≡ true → first_serving a kind (drop i ps) ≡ Some (get_or ps i d)
-  first_serving-drop_here ps i d below here =
-      at_drop_more (first_serving a kind) ps i d below ∙ first_serving-here (get_or ps i d) (drop (i + 1) ps) here
-
-  -- the element at an index doesn't
-  pub first_serving-drop_past : (ps : List Pair) (i : ℕ) (d : Pair) → i < length ps → serves a kind (get_or ps i d) ≡ false → first_serving a kind (drop i ps) ≡ first_serving a kind (drop (i + 1) ps)
-  first_serving-drop_past ps i d below off =
-      at_drop_more (first_serving a kind) ps i d below ∙ first_serving-past (get_or ps i d) (drop (i + 1) ps) off
-
   -- a pair of the first list comes first
   pub first_serving-left : (xs ys : List Pair) (p : Pair) → first_serving a kind xs ≡ Some p → first_serving a kind (xs ++ ys) ≡ Some p
   first_serving-left [] ys p found = absurd (cc)

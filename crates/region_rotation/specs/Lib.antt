@@ -1,4 +1,4 @@
-pub mod Coverable
+pub mod Directories
+pub mod Finding
 pub mod Ready
 pub mod Rotation
-pub mod Sample

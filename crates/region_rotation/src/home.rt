@@ -3,12 +3,13 @@ ghost use Rattle.std.specs.List.{AllByRecursion};
 ghost use Rattle.flat_model.specs.Cover.{pair_of};
 ghost use Rattle.flat_model.specs.Plan.{grant_pairs, overlay_pair};
 ghost use Rattle.flat_model.specs.Sound.{IsSound};
-ghost use Rattle.region_rotation.specs.Coverable.{IsCoverable};
+ghost use Rattle.region_packer.specs.Directory.{IsCoverable};
+ghost use Rattle.region_rotation.specs.Directories.{AreDirectories};
 ghost use Rattle.region_rotation.specs.Rotation.{home_pairs};
 
 use arrayvec::ArrayVec;
 use flat_model::{Board, BoxPart, Config, Item, Items, OutOfMemory, Pair, Range};
-use region_packer::cover;
+use region_packer::{Directory, cover};
 use std::alloc::Global;
 
 /// RASR without SIZE of flash, which may be read and executed.
@@ -96,4 +97,16 @@ pub fn homes_of(alloc: Global, cfg: &Config) -> Result<Vec<HomePairs>, OutOfMemo
         homes.push(home_of(alloc, cfg, part)?)?;
     }
     Ok(homes)
+}
+
+/// The directory of each box of a configuration.
+pub fn directories_of(alloc: Global, cfg: &Config) -> Result<Vec<Directory>, OutOfMemory>
+    requires { IsSound cfg.now }
+    ensures { IfOk result (λ v. AreDirectories (map (home_pairs cfg.now) cfg.now.boxes) v.items) }
+{
+    let mut directories = Vec::new(alloc);
+    for part in cfg.boxes.as_slice() {
+        directories.push(Directory::new(alloc, part.grants.as_vec())?)?;
+    }
+    Ok(directories)
 }

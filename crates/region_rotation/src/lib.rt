@@ -2,10 +2,12 @@
 #![tactic(auto)]
 
 mod home;
+mod lookup;
 mod pages;
 mod rotator;
 mod slots;
 #[cfg(test)]
 mod tests;
 
+pub use lookup::find;
 pub use rotator::Rotator;

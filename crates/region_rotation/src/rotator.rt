@@ -1,4 +1,4 @@
-ghost use Rattle.std.specs.Prelude.{◌≡◌, ◌<◌, Some, true, not, length, is_some, option_map, IfNone, IfOk, IfSome, IsSome};
+ghost use Rattle.std.specs.Prelude.{◌≡◌, ◌<◌, Some, List, true, not, length, is_some, option_map, IfNone, IfOk, IfSome, IsSome};
 ghost use Rattle.std.specs.Bool.{OnFalse};
 ghost use Rattle.std.specs.List.{slice_get};
 ghost use Rattle.addr_base.specs.declared.identity.BoxId.{BoxId};
@@ -10,13 +10,17 @@ ghost use Rattle.flat_model.specs.Decision.{decision, is_granted};
 ghost use Rattle.flat_model.specs.Plan.{REGIONS, first_serving, plan_of};
 ghost use Rattle.flat_model.specs.Sound.{IsSound};
 ghost use Rattle.flat_model.specs.UnitRun.{UnitState, entered, flushed, is_last, opening_unit, rotated};
+ghost use Rattle.region_rotation.specs.declared.home.HomePairs.{HomePairs};
+ghost use Rattle.region_rotation.specs.Directories.{AnswersFor};
 ghost use Rattle.region_rotation.specs.Ready.{IsHeapBelow, plan_at};
 
-use crate::home::{HomePairs, homes_of};
-use crate::pages::{first_of, first_page_group};
+use crate::home::{HomePairs, directories_of, homes_of};
+use crate::lookup::find;
+use crate::pages::first_page_group;
 use crate::slots::{FIRST, empty_circle, load, next_of, switch_to};
 use flat_model::{BoxId, Config, HeapPart, Kind, OutOfMemory, Pair, Rotated, Verdict};
-use pmsa_unit::Unit;
+use pmsa_unit::{Unit, gives_kind};
+use region_packer::Directory;
 use std::alloc::Global;
 use std::marker::Model;
 
@@ -25,6 +29,7 @@ use std::marker::Model;
 #[derive(Debug, Drop)]
 pub struct Rotator {
     homes: Vec<HomePairs>,
+    directories: Vec<Directory>,
     heap: Option<HeapPart>,
     unit: Unit,
     last: Option<BoxId>,
@@ -32,6 +37,7 @@ pub struct Rotator {
 }
 
 impl Model for Rotator {
+    ghost use Rattle.region_rotation.specs.Directories.{AreDirectories};
     ghost use Rattle.region_rotation.specs.Ready.{IsReady};
     ghost use Rattle.region_rotation.specs.Rotation.{Rotation};
 
@@ -43,12 +49,31 @@ impl Model for Rotator {
       unit = record { last = r.last; pairs = r.unit; circle = r.circle };
     } };
 
-    ghost invariant = { λ r. IsReady r.homes.items r.heap r.last r.unit r.circle };
+    ghost invariant = { λ r. IsReady r.homes.items r.heap r.last r.unit r.circle
+        × AreDirectories r.homes.items r.directories.items };
 }
 
-/// The first pair of a box's plan that, taken alone, grants the access.
+// The pair of the block that has the address, if it gives the kind.
+fn grant_serving(directory: &mut Directory, a: u32, kind: Kind) -> Option<Pair>
+    ensures exact { (pairs : List Pair) → AnswersFor pairs directory.old.blocks
+        → result ≡ first_serving a kind pairs }
+    ensures blocks { directory.new.blocks ≡ directory.old.blocks }
+{
+    let Some(i) = find(directory, a) else {
+        return None;
+    };
+    let pair = directory.probe(i).pair;
+    if gives_kind(pair, kind) {
+        Some(pair)
+    } else {
+        None
+    }
+}
+
+// The first pair of a box's plan that, taken alone, grants the access: of its grants by the directory, and of its pages
+// by division.
 fn serving(
-    home: &HomePairs,
+    directory: &mut Directory,
     heap: Option<HeapPart>,
     owners: &[Option<BoxId>],
     b: BoxId,
@@ -57,9 +82,11 @@ fn serving(
 ) -> Option<Pair>
     requires heap { IfSome heap IsHeapBelow }
     requires owners { IfSome heap (λ h. length owners.now ≡ h.count) }
-    ensures { result ≡ first_serving a kind (plan_at heap home.now b.0 owners.now) }
+    ensures exact { (home : HomePairs) → AnswersFor home.grants directory.old.blocks
+        → result ≡ first_serving a kind (plan_at heap home b.0 owners.now) }
+    ensures blocks { directory.new.blocks ≡ directory.old.blocks }
 {
-    if let Some(pair) = first_of(home.grants.as_slice(), a, kind) {
+    if let Some(pair) = grant_serving(directory, a, kind) {
         return Some(pair);
     }
     match heap {
@@ -77,8 +104,10 @@ impl Rotator {
         ensures { IfOk result (λ r. r ≡ rotation_of cfg.now (opening_unit cfg.now)) }
     {
         let homes = homes_of(alloc, cfg)?;
+        let directories = directories_of(alloc, cfg)?;
         Ok(Rotator {
             homes,
+            directories,
             heap: cfg.board.heap,
             unit: Unit::new(),
             last: None,
@@ -162,8 +191,8 @@ impl Rotator {
         ensures others { self.new ≡ record self.old { unit = self.new.unit } }
     {
         let b = self.last.unwrap();
-        let home = &self.homes[usize::from(b.0)];
-        let Some(pair) = serving(home, self.heap, owners.as_slice(), b, a, kind) else {
+        let directory = &mut self.directories[usize::from(b.0)];
+        let Some(pair) = serving(directory, self.heap, owners.as_slice(), b, a, kind) else {
             return None;
         };
         let slot = self.circle;

@@ -1,99 +1,16 @@
-ghost use Rattle.std.specs.Prelude.{◌≡◌, IfOk};
-ghost use Rattle.region_rotation.specs.Sample.{sample_config};
+ghost use Rattle.std.specs.Prelude.{◌≡◌, ◌+◌, ◌*◌, ◌%◌, ◌≤◌, IfOk};
+ghost use Rattle.std.specs.List.{AllByRecursion};
+ghost use Rattle.addr_base.specs.Range.{ADDRESS_END};
+ghost use Rattle.addr_base.specs.Rights.{read_write};
+ghost use Rattle.flat_model.specs.Sound.{AreGrantsApart};
+ghost use Rattle.region_packer.specs.Directory.{IsCoverable};
 
-use crate::Rotator;
-use flat_model::{
-    Board, BoxId, BoxPart, Config, Instr, Item, Items, Kind, OutOfMemory, Pair, Range, Rights,
-    Rotated, Text, ThreadId, ThreadPart, Verdict,
-};
+use crate::{Rotator, find};
+use flat_model::{BoxId, Item, Kind, OutOfMemory, Pair, Range, Rights, Rotated, Verdict};
+use region_packer::Directory;
+use sample_board::one_box;
 use std::alloc::Global;
 use std::test::Fail;
-
-const FLASH: Range = Range {
-    base: 0,
-    len: 0x10_0000,
-};
-
-const CODE: Range = Range {
-    base: 0,
-    len: 0xF_0000,
-};
-
-const SECRET: Range = Range {
-    base: 0xF_0000,
-    len: 0x1_0000,
-};
-
-const OWN: Range = Range {
-    base: 0x2000_0000,
-    len: 0x100,
-};
-
-const GRANT: Item = Item {
-    range: Range {
-        base: 0x4000_0020,
-        len: 0xE0,
-    },
-    rights: Rights::READ_WRITE,
-};
-
-fn board(alloc: Global) -> Board
-    ensures { result ≡ sample_config.board }
-{
-    Board {
-        flash: FLASH,
-        sram: Range {
-            base: 0x2000_0000,
-            len: 0x2_0000,
-        },
-        peripherals: Range {
-            base: 0x4000_0000,
-            len: 0x10_0000,
-        },
-        secret: Some(SECRET),
-        words: Items::from_vec(Vec::new(alloc)),
-        heap: None,
-    }
-}
-
-fn one_box(alloc: Global) -> Result<Config, OutOfMemory>
-    ensures { IfOk result (λ cfg. cfg ≡ sample_config) }
-{
-    let code = Item {
-        range: CODE,
-        rights: Rights::READ_EXECUTE,
-    };
-    let own = Item {
-        range: OWN,
-        rights: Rights::READ_WRITE,
-    };
-    let part = BoxPart {
-        name: Text::from_string(String::from_str(alloc, "a")?),
-        own: OWN,
-        secret: false,
-        first: 0,
-        threads: 1,
-        server: ThreadId(0),
-        items: Items::from_vec(vec![in alloc; code, own, GRANT]?),
-        grants: Items::from_vec(vec![in alloc; GRANT]?),
-        irqs: Items::from_vec(Vec::new(alloc)),
-    };
-    let thread = ThreadPart {
-        home: BoxId(0),
-        program: Items::from_vec(vec![in alloc; Instr::Halt]?),
-        steps: 10,
-    };
-    Ok(Config {
-        version: 1,
-        board: board(alloc),
-        boxes: Items::from_vec(vec![in alloc; part]?),
-        threads: Items::from_vec(vec![in alloc; thread]?),
-        registers: Items::from_vec(Vec::new(alloc)),
-        gateways: Items::from_vec(Vec::new(alloc)),
-        devices: Items::from_vec(Vec::new(alloc)),
-        script: Items::from_vec(Vec::new(alloc)),
-    })
-}
 
 #[test]
 fn a_grant_of_seven_blocks_rotates_in_by_three_pairs(rt: HostRuntime) -> Result<(), Fail> {
@@ -156,6 +73,118 @@ fn a_switch_hides_the_secret_range_behind_the_last_slot(rt: HostRuntime) -> Resu
         (0x0010_0000, Verdict::Denied),
     ] {
         assert_eq!(rt; rotator.decide(a, Kind::Read), verdict, "at {a}");
+    }
+    Ok(())
+}
+
+// A grant of one block of 32 bytes.
+fn one_block(base: u32) -> Item
+    ensures { result ≡ record { range = record { base = base; len = 32 }; rights = read_write } }
+{
+    Item {
+        range: Range { base, len: 0x20 },
+        rights: Rights::READ_WRITE,
+    }
+}
+
+// So many grants of one block, each so far behind the one before.
+fn spread(alloc: Global, first: u32, step: u32, n: u32) -> Result<Vec<Item>, OutOfMemory>
+    requires base { first % 32 ≡ 0 }
+    requires step { (step % 32 ≡ 0) × (32 ≤ step) }
+    requires ends { first + n * step ≤ ADDRESS_END }
+    ensures covered { IfOk result (λ v. AllByRecursion IsCoverable v.items) }
+    ensures apart { IfOk result (λ v. AreGrantsApart v.items) }
+{
+    let mut grants = Vec::new(alloc);
+    for k in 0..n {
+        grants.push(one_block(first + k * step))?;
+    }
+    Ok(grants)
+}
+
+#[test]
+fn each_of_seven_blocks_is_found_by_three_looks(rt: HostRuntime) -> Result<(), Fail> {
+    let grants = spread(rt.alloc(), 0x4000_1000, 0x1000, 7)?;
+    let mut dir = Directory::new(rt.alloc(), &grants)?;
+    for (a, number) in [
+        (0x3FFF_FFFF, None),
+        (0x4000_1000, Some(0)),
+        (0x4000_101F, Some(0)),
+        (0x4000_1020, None),
+        (0x4000_3010, Some(2)),
+        (0x4000_3020, None),
+        (0x4000_7000, Some(6)),
+        (0x4000_7020, None),
+    ] {
+        let before = dir.probes();
+        assert_eq!(rt; find(&mut dir, a), number, "at {a}");
+        let after = dir.probes();
+        assert!(rt; before <= after);
+        assert!(rt; after - before <= 3, "at {a}");
+    }
+    Ok(())
+}
+
+#[test]
+fn each_of_sixty_four_grants_is_found_by_seven_looks(rt: HostRuntime) -> Result<(), Fail> {
+    let grants = spread(rt.alloc(), 0x4000_0000, 0x40, 64)?;
+    let mut dir = Directory::new(rt.alloc(), &grants)?;
+    for (a, number) in [
+        (0x3FFF_FFFF, None),
+        (0x4000_0000, Some(0)),
+        (0x4000_0020, None),
+        (0x4000_0800, Some(32)),
+        (0x4000_0FC0, Some(63)),
+        (0x4000_0FE0, None),
+    ] {
+        let before = dir.probes();
+        assert_eq!(rt; find(&mut dir, a), number, "at {a}");
+        let after = dir.probes();
+        assert!(rt; before <= after);
+        assert!(rt; after - before <= 7, "at {a}");
+    }
+    Ok(())
+}
+
+#[test]
+fn one_block_takes_one_look_and_none_takes_none(rt: HostRuntime) -> Result<(), Fail> {
+    let grants = vec![in rt.alloc(); one_block(0x4000_0020)]?;
+    let mut dir = Directory::new(rt.alloc(), &grants)?;
+    assert_eq!(rt; find(&mut dir, 0x4000_001F), None);
+    assert_eq!(rt; find(&mut dir, 0x4000_003F), Some(0));
+    assert_eq!(rt; find(&mut dir, 0x4000_0040), None);
+    assert_eq!(rt; dir.probes(), 3);
+    let mut empty = Directory::new(rt.alloc(), &Vec::new(rt.alloc()))?;
+    assert_eq!(rt; find(&mut empty, 0x4000_0000), None);
+    assert_eq!(rt; empty.probes(), 0);
+    Ok(())
+}
+
+#[test]
+fn the_longest_grant_has_blocks_that_six_looks_find(rt: HostRuntime) -> Result<(), Fail> {
+    let grant = Item {
+        range: Range {
+            base: 0x20,
+            len: 0xDFFF_FFC0,
+        },
+        rights: Rights::READ,
+    };
+    let grants = vec![in rt.alloc(); grant]?;
+    let mut dir = Directory::new(rt.alloc(), &grants)?;
+    assert_eq!(rt; dir.len(), 51);
+    for (a, number) in [
+        (0x1F, None),
+        (0x20, Some(0)),
+        (0x7F, Some(1)),
+        (0x8000_0000, Some(26)),
+        (0xDFFF_FFDF, Some(50)),
+        (0xDFFF_FFE0, None),
+    ] {
+        let before = dir.probes();
+        assert_eq!(rt; find(&mut dir, a), number, "at {a}");
+        let after = dir.probes();
+        assert!(rt; before <= after);
+        assert!(rt; after - before <= 6, "at {a}");
     }
     Ok(())
 }

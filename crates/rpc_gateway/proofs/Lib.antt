@@ -1,4 +1,13 @@
+pub mod CallsLemmas
 pub mod CountLemmas
+pub mod FindingLemmas
+pub mod FirstPlaces
+pub mod ListLemmas
+pub mod ListedLemmas
+pub mod NumberLemmas
+pub mod PlaceLemmas
 pub mod SampleLemmas
+pub mod ServedLemmas
 pub mod ServingLemmas
 pub mod SetLemmas
+pub mod TableLemmas

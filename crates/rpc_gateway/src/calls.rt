@@ -8,10 +8,10 @@ ghost use Rattle.rpc_gateway.specs.Calls as spec;
 ghost use Rattle.rpc_gateway.specs.Servers.{is_server_thread, thread_serving};
 
 use crate::directory::Directory;
-use crate::list::{call_count, oldest_posted, oldest_posted_by, posted_count, set_state};
+use crate::table::{Found, Table};
 use flat_model::{
     BoxId, Call, CallState, Collected, Config, Items, NoCall, NotNext, OutOfMemory, Started,
-    ThreadId, ThreadPart, Ticket, collected_by,
+    ThreadId, ThreadPart, Ticket,
 };
 use std::alloc::Global;
 use std::marker::Model;
@@ -19,38 +19,40 @@ use std::marker::Model;
 /// The calls of a configuration's threads. Contracts see the configuration, the list of all calls in the order in which
 /// they were made, the call that each box's server serves, and for how many more calls there is room. Nothing but its
 /// making takes memory.
+///
+/// Beside the call that each server serves stands its place in the table.
 #[derive(Drop)]
 pub struct Calls {
     directory: Directory,
-    calls: Vec<Call>,
+    table: Table,
     serving: Items<Option<Ticket>>,
+    served: Items<u32>,
 }
 
 impl Model for Calls {
-    ghost use Rattle.std.specs.Prelude.{◌-◌, length, vec_capacity};
     ghost use Rattle.rpc_gateway.specs.Calls.{CallsView};
-    ghost use Rattle.rpc_gateway.specs.Kept.{HasRoom};
+    ghost use Rattle.rpc_gateway.specs.Table.{AreServed};
 
     ghost Value = { CallsView };
 
     ghost view = { λ c. record {
       config = c.directory;
-      calls = c.calls.items;
+      calls = c.table.calls;
       serving = c.serving;
-      spare = vec_capacity c.calls - length c.calls.items;
+      spare = c.table.spare;
     } };
 
-    ghost invariant = { λ c. HasRoom (length c.calls.items) (vec_capacity c.calls) };
+    ghost invariant = { λ c. AreServed c.table.calls c.serving c.served };
 }
 
 // How many steps the threads may take in all.
-fn total_steps(threads: &[ThreadPart]) -> usize
+fn total_steps(threads: &[ThreadPart]) -> u32
     requires { sum_by (λ thread. thread.steps) threads.now ≤ 250000 }
     ensures { result ≡ sum_by (λ thread. thread.steps) threads.now }
 {
     let mut total = 0;
     for thread in threads {
-        total += thread.steps as usize;
+        total += thread.steps;
     }
     total
 }
@@ -63,12 +65,14 @@ impl Calls {
     {
         let directory = Directory::new(alloc, cfg)?;
         let room = total_steps(cfg.threads.as_slice());
-        let calls = Vec::with_capacity(alloc, room)?;
+        let table = Table::new(alloc, room)?;
         let serving = Items::filled(alloc, None, cfg.boxes.len())?;
+        let served = Items::filled(alloc, 0, cfg.boxes.len())?;
         Ok(Calls {
             directory,
-            calls,
+            table,
             serving,
+            served,
         })
     }
 
@@ -89,8 +93,7 @@ impl Calls {
         ensures exact { self.new
             ≡ spec.with_call self.old (spec.posted_call result target function args) }
     {
-        let seq = call_count(t, self.calls.as_slice()) + 1;
-        let ticket = Ticket { thread: t, seq };
+        let ticket = self.table.next_ticket(t);
         let call = Call {
             ticket,
             target,
@@ -98,7 +101,7 @@ impl Calls {
             args,
             state: CallState::Posted,
         };
-        self.calls.push_reserved(call);
+        self.table.push(call);
         ticket
     }
 
@@ -106,15 +109,15 @@ impl Calls {
     pub fn oldest(&self, b: BoxId) -> Option<Ticket>
         ensures { result ≡ spec.ticket_of (call_words.oldest_posted b.0 self.now.calls) }
     {
-        let call = oldest_posted(b, self.calls.as_slice())?;
-        Some(call.ticket)
+        let found = self.table.oldest(b)?;
+        Some(found.call.ticket)
     }
 
     /// How many calls are posted to a box.
     pub fn posted(&self, b: BoxId) -> u32
         ensures { result ≡ call_words.posted_count b.0 self.now.calls }
     {
-        posted_count(b, self.calls.as_slice())
+        self.table.posted_count(b)
     }
 
     /// The call that a thread serves; none exactly where it is not its box's server, or serves no call.
@@ -146,19 +149,20 @@ impl Calls {
             self.new ≡ (if is_ok result then spec.with_start self.old b ticket else self.old) }
     {
         let home = self.directory.home_of(server);
-        let oldest = oldest_posted_by(ticket.thread, home, self.calls.as_slice());
+        let oldest = self.table.oldest_by(ticket.thread, home);
         match oldest {
-            Some(call) if call.ticket == ticket => {
-                set_state(ticket, CallState::Started, self.calls.as_mut_slice());
+            Some(found) if found.call.ticket == ticket => {
+                self.table.start(found);
                 self.serving.put(home.0 as usize, Some(ticket));
+                self.served.put(home.0 as usize, found.place);
                 Ok(Started {
-                    function: call.function,
-                    args: call.args,
+                    function: found.call.function,
+                    args: found.call.args,
                     caller: self.directory.home_of(ticket.thread),
                 })
             }
             _ => Err(NotNext {
-                next: oldest.map(|call| call.ticket),
+                next: oldest.map(|found| found.call.ticket),
             }),
         }
     }
@@ -176,7 +180,8 @@ impl Calls {
             return Err(NoCall);
         };
         let home = self.directory.home_of(server);
-        set_state(ticket, CallState::Done(v), self.calls.as_mut_slice());
+        let found = self.table.at(self.served.at(home.0 as usize));
+        self.table.finish(found, v);
         self.serving.put(home.0 as usize, None);
         Ok(ticket)
     }
@@ -190,13 +195,16 @@ impl Calls {
             ≡ spec.with_answer self.old (record { thread = t; seq = seq }) result }
     {
         let asked = Ticket { thread: t, seq };
-        let answer = collected_by(asked, self.calls.as_slice());
-        match answer {
-            Collected::Done(_) => {
-                set_state(asked, CallState::Collected, self.calls.as_mut_slice());
+        let Some(found) = self.table.open_call(asked) else {
+            return Collected::NoSuch;
+        };
+        match found.call.state {
+            CallState::Posted | CallState::Started => Collected::Waiting,
+            CallState::Done(value) => {
+                self.table.collect(found);
+                Collected::Done(value)
             }
-            Collected::Waiting | Collected::NoSuch => {}
+            CallState::Collected => Collected::NoSuch,
         }
-        answer
     }
 }

@@ -3,7 +3,8 @@
 
 mod calls;
 mod directory;
-mod list;
+mod sought;
+mod table;
 #[cfg(test)]
 mod tests;
 

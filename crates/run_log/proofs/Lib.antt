@@ -7,9 +7,9 @@ pub mod NameLemmas
 pub mod NumberLemmas
 pub mod Printing
 pub mod ReadingLemmas
-pub mod SampleLemmas
 pub mod SpacedLemmas
 pub mod StopLemmas
+pub mod TakenWords
 pub mod ThreadsBack
 pub mod TypedBack
 pub mod WordLemmas

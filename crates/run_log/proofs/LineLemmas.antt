@@ -18,7 +18,7 @@ use Rattle.flat_model.specs.Log.{is_named_item}
 use Rattle.flat_model.specs.Sound.{IsSound}
 use Rattle.flat_model.specs.Text.{end_line, entry_words, hex_word, item_line, item_words, mode_text, thread_text, unit_words}
 use Rattle.run_log.specs.Candidates.{end_of, item_of}
-use Rattle.run_log.specs.LineWords.{word_at, words_of}
+use Rattle.run_log.specs.LineWords.{first_of, words_of}
 use Rattle.run_log.specs.Lines.{HasNoLine}
 use Rattle.run_log.specs.Spaced.{spaced}
 use Rattle.run_log.specs.Stops.{HasNoEnd, HasNoItem, IsEndAt, IsEndOf, IsItemAt, IsItemOf, IsNoEnd, IsNoItem}
@@ -98,16 +98,18 @@ record HasFirst (ws : List (List ℕ)) : Type 0 where
   pub first : List ℕ
   pub others : List (List ℕ)
   pub are : ws ≡ first ∷ others
-  pub other : bytes_eq (word_at ws 0) (codes "thread") ≡ false
+  pub other : bytes_eq (first_of ws) (codes "thread") ≡ false
   pub long : 1 ≤ length first
 
 unit_has_first : (cfg : Config) (l : UnitLine) → HasFirst (unit_words cfg l)
+unfolding first_of
 unit_has_first cfg (line.Switch b) = record { first = _; others = _; are = refl; other = refl; long = lit≤ tt }
 unit_has_first cfg (line.Rotate slot pair) = record { first = _; others = _; are = refl; other = refl; long = lit≤ tt }
 unit_has_first cfg line.Flush = record { first = _; others = _; are = refl; other = refl; long = lit≤ tt }
 unit_has_first cfg (line.Access kind size at verdict) = record { first = _; others = _; are = refl; other = refl; long = lit≤ tt }
 
 entry_has_first : (cfg : Config) (c : Choice) (r : Reply) → HasFirst (entry_words cfg c r)
+unfolding first_of
 entry_has_first cfg (choice.Turn t room) r = record { first = _; others = _; are = refl; other = refl; long = lit≤ tt }
 entry_has_first cfg (choice.Start t ticket) r = record { first = _; others = _; are = refl; other = refl; long = lit≤ tt }
 entry_has_first cfg (choice.Idle t) r = record { first = _; others = _; are = refl; other = refl; long = lit≤ tt }
@@ -213,13 +215,14 @@ end_unique cfg t i j r s sound small typed typed' e =
 -- no item's line is a line of an end
 pub item_not_end : (cfg : Config) (i : Logged) (t : ℕ) (end : End) (r s : List ℕ) → IsSound cfg → is_named_item cfg i ≡ true → IsTypedItem i → t < 2 ^ 64 → IsTypedEnd end
     → item_line cfg i ++ r ≡ end_line cfg t end ++ s → ⊥
+unfolding first_of
 item_not_end cfg i t end r s sound named typed small typed' e =
     let front : item_body cfg i ++ 10 ∷ r ≡ end_body cfg t end ++ 10 ∷ s =
     sym (with_feed (item_body cfg i) r) ∙ ap (λ xs. xs ++ r) (sym (item_line_is cfg i)) ∙ e ∙ ap (λ xs. xs ++ s) (end_line_is cfg t end) ∙ with_feed (end_body cfg t end) s in
     let parts = line_split (item_body cfg i) (end_body cfg t end) r s (item_feedless cfg i sound named typed) (end_feedless cfg t end sound small typed') front in
     let words : item_words cfg i ≡ end_words cfg t end =
     sym (item_words_back cfg i sound named typed) ∙ ap words_of parts.0 ∙ end_words_back cfg t end sound small typed' in
-    let tested : false ≡ true = sym (item_has_first cfg i).other ∙ ap (λ ws. bytes_eq (word_at ws 0) (codes "thread")) words in
+    let tested : false ≡ true = sym (item_has_first cfg i).other ∙ ap (λ ws. bytes_eq (first_of ws) (codes "thread")) words in
     absurd (cc)
 
 -- a line is not empty

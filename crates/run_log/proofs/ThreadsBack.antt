@@ -23,8 +23,8 @@ use Rattle.flat_model.specs.Placing.{common_range}
 use Rattle.flat_model.specs.Sound.{AreNumbered, homes_from, IsBox, IsSound}
 use Rattle.flat_model.specs.CallRows.{home_of}
 use Rattle.flat_model.specs.Text.{box_name, first_thread, thread_text, ticket_text}
-use Rattle.run_log.specs.Candidates.{box_of, thread_of, ticket_of}
 use Rattle.run_log.specs.LineWords.{is_dot, is_hash}
+use Rattle.run_log.specs.Meanings.{box_of, thread_of, ticket_of}
 use Rattle.run_log.proofs.NumberLemmas.{number_of_decimal}
 use Rattle.run_log.proofs.WordLemmas.{AllAbove, above-append, above-lower, above_decimal, after_first_is, before_first_is, dot_above, dot_is, hash_above, hash_is}
 

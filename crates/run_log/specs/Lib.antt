@@ -1,9 +1,9 @@
 pub mod Candidates
 pub mod LineWords
 pub mod Lines
+pub mod Meanings
 pub mod Printed
 pub mod Reading
-pub mod Sample
 pub mod Spaced
 pub mod Stops
 pub mod Typed

@@ -1,5 +1,5 @@
 -- Inner: no public contract cites this. The words of a line, and the numbers that they write.
-use Rattle.std.specs.Prelude.{ℕ, ◌+◌, ◌-◌, ◌*◌, Bool, nat_eq, nat_lt, min, unwrap_or, List, [], ◌∷◌, if◌then◌else◌, slice_get}
+use Rattle.std.specs.Prelude.{ℕ, ◌+◌, ◌-◌, ◌*◌, Bool, nat_eq, nat_lt, min, List, [], ◌∷◌, if◌then◌else◌}
 use Rattle.std.specs.List.{slice_split}
 
 -- whether the byte separates words
@@ -18,9 +18,15 @@ is_hash b = nat_eq b 35
 abbrev pub words_of : List ℕ → List (List ℕ)
 words_of line = slice_split is_space line
 
--- the word at a place, or nothing past the last
-abbrev pub word_at : List (List ℕ) → ℕ → List ℕ
-word_at words k = unwrap_or (slice_get words k) []
+-- the first of some words, or nothing where there is none
+unfoldable pub first_of : List (List ℕ) → List ℕ
+first_of [] = []
+first_of (word ∷ words) = word
+
+-- the words behind the first
+unfoldable pub rest_of : List (List ℕ) → List (List ℕ)
+rest_of [] = []
+rest_of (word ∷ words) = words
 
 -- the value of a digit
 unfoldable pub digit_of : ℕ → ℕ

@@ -19,7 +19,7 @@ use flat_model::{
 pub fn home_of(config: &Config, t: ThreadId) -> BoxId
     ensures { result ≡ home_of config.now t.0 }
 {
-    match config.threads.as_slice().get(usize::from(t.0)) {
+    match config.program(t) {
         Some(thread) => thread.home,
         None => BoxId(0),
     }
@@ -29,7 +29,7 @@ pub fn home_of(config: &Config, t: ThreadId) -> BoxId
 fn box_name(config: &Config, b: BoxId) -> &[u8]
     ensures { result.now ≡ box_name config.now b.0 }
 {
-    match config.boxes.as_slice().get(usize::from(b.0)) {
+    match config.part(b) {
         Some(part) => part.name.as_str().as_bytes(),
         None => &[],
     }
@@ -50,7 +50,7 @@ pub fn push_name(config: &Config, b: BoxId, page: &mut Page)
 pub fn first_thread(config: &Config, b: BoxId) -> u32
     ensures { result ≡ first_thread config.now b.0 }
 {
-    match config.boxes.as_slice().get(usize::from(b.0)) {
+    match config.part(b) {
         Some(part) => part.first,
         None => 0,
     }
@@ -96,8 +96,8 @@ fn push_kind(kind: Kind, page: &mut Page)
     }
 }
 
-// The word of a cause of a fault.
-fn flaw_text(flaw: Flaw) -> &'static str
+/// The word of a cause of a fault.
+pub fn flaw_text(flaw: Flaw) -> &'static str
     ensures text { result.now ≡ flaw_text flaw }
     ensures short { length result.now ≤ 9 }
 {
@@ -109,8 +109,8 @@ fn flaw_text(flaw: Flaw) -> &'static str
     }
 }
 
-// The word of the state of a thread.
-fn mode_text(mode: Mode) -> &'static str
+/// The word of the state of a thread.
+pub fn mode_text(mode: Mode) -> &'static str
     ensures text { result.now ≡ mode_text mode }
     ensures short { length result.now ≤ 7 }
 {

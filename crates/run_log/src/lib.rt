@@ -5,6 +5,7 @@ mod candidates;
 mod items;
 mod laws;
 mod lines;
+mod meanings;
 mod named;
 mod page;
 mod reading;

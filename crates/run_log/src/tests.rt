@@ -1,89 +1,12 @@
-ghost use Rattle.std.specs.Prelude.{◌≡◌, IfOk};
-ghost use Rattle.flat_model.specs.Sound.{IsSound};
-ghost use Rattle.run_log.specs.Sample.{sample_config};
-
 use crate::{read_log, write_log};
 use flat_model::{
-    Board, BoxId, BoxPart, Choice, Config, End, Entry, Instr, Item, Items, Kind, LogErr, Logged,
-    Mode, OutOfMemory, Range, Reply, Rights, Text, ThreadId, ThreadPart, UnitLine, Verdict,
+    BoxId, Choice, End, Entry, Kind, LogErr, Logged, Mode, OutOfMemory, Reply, ThreadId, UnitLine,
+    Verdict,
 };
 use io_edge::{MemSink, WriteErr};
+use sample_board::one_box;
 use std::alloc::Global;
 use std::test::Fail;
-
-const FLASH: Range = Range {
-    base: 0,
-    len: 0x10_0000,
-};
-
-const OWN: Range = Range {
-    base: 0x2000_0000,
-    len: 0x100,
-};
-
-fn board(alloc: Global) -> Board
-    ensures { result ≡ sample_config.board }
-{
-    Board {
-        flash: FLASH,
-        sram: Range {
-            base: 0x2000_0000,
-            len: 0x2_0000,
-        },
-        peripherals: Range {
-            base: 0x4000_0000,
-            len: 0x10_0000,
-        },
-        secret: None,
-        words: Items::from_vec(Vec::new(alloc)),
-        heap: None,
-    }
-}
-
-fn one_box(alloc: Global) -> Result<Config, OutOfMemory>
-    ensures { IfOk result (λ config. config ≡ sample_config) }
-{
-    let flash = Item {
-        range: FLASH,
-        rights: Rights::READ_EXECUTE,
-    };
-    let own = Item {
-        range: OWN,
-        rights: Rights::READ_WRITE,
-    };
-    let part = BoxPart {
-        name: Text::from_string(String::from_str(alloc, "a")?),
-        own: OWN,
-        secret: false,
-        first: 0,
-        threads: 1,
-        server: ThreadId(0),
-        items: Items::from_vec(vec![in alloc; flash, own]?),
-        grants: Items::from_vec(Vec::new(alloc)),
-        irqs: Items::from_vec(Vec::new(alloc)),
-    };
-    let thread = ThreadPart {
-        home: BoxId(0),
-        program: Items::from_vec(vec![in alloc; Instr::Halt]?),
-        steps: 10,
-    };
-    Ok(Config {
-        version: 1,
-        board: board(alloc),
-        boxes: Items::from_vec(vec![in alloc; part]?),
-        threads: Items::from_vec(vec![in alloc; thread]?),
-        registers: Items::from_vec(Vec::new(alloc)),
-        gateways: Items::from_vec(Vec::new(alloc)),
-        devices: Items::from_vec(Vec::new(alloc)),
-        script: Items::from_vec(Vec::new(alloc)),
-    })
-}
-
-fn sound_box(alloc: Global) -> Result<Config, OutOfMemory>
-    ensures { IfOk result IsSound }
-{
-    one_box(alloc)
-}
 
 // The output of a box that stores a word in its own memory, loads it again and halts.
 const LINES: [&str; 8] = [
@@ -131,7 +54,7 @@ fn access(kind: Kind) -> Logged {
 
 #[test]
 fn the_first_run_is_read_and_written_back(rt: HostRuntime) -> Result<(), Fail> {
-    let config = sound_box(rt.alloc())?;
+    let config = one_box(rt.alloc())?;
     let bytes = text(rt.alloc(), 8, "")?;
     assert!(rt; bytes.len() < 1000);
     let log = read_log(rt.alloc(), &config, &bytes)?;
@@ -164,7 +87,7 @@ fn the_first_run_is_read_and_written_back(rt: HostRuntime) -> Result<(), Fail> {
 
 #[test]
 fn a_text_that_is_cut_is_refused_where_it_ends(rt: HostRuntime) -> Result<(), Fail> {
-    let config = sound_box(rt.alloc())?;
+    let config = one_box(rt.alloc())?;
     let bytes = text(rt.alloc(), 8, "")?;
     assert!(rt; bytes.len() < 1000);
     let mut line = 1;
@@ -185,7 +108,7 @@ fn a_text_that_is_cut_is_refused_where_it_ends(rt: HostRuntime) -> Result<(), Fa
 
 #[test]
 fn a_bad_line_is_refused_where_it_stands(rt: HostRuntime) -> Result<(), Fail> {
-    let config = sound_box(rt.alloc())?;
+    let config = one_box(rt.alloc())?;
     for (place, bad, line) in [
         (0, "turn z.0 ok\n", 1),
         (1, "turn a.0 okay\n", 2),
@@ -224,7 +147,7 @@ fn a_bad_line_is_refused_where_it_stands(rt: HostRuntime) -> Result<(), Fail> {
 
 #[test]
 fn every_line_is_read_and_written_back(rt: HostRuntime) -> Result<(), Fail> {
-    let config = sound_box(rt.alloc())?;
+    let config = one_box(rt.alloc())?;
     for good in [
         "turn a.0 ended\n",
         "turn a.0 status 3\n",
@@ -258,7 +181,7 @@ fn every_line_is_read_and_written_back(rt: HostRuntime) -> Result<(), Fail> {
 
 #[test]
 fn a_sink_that_fails_keeps_a_prefix(rt: HostRuntime) -> Result<(), Fail> {
-    let config = sound_box(rt.alloc())?;
+    let config = one_box(rt.alloc())?;
     let bytes = text(rt.alloc(), 8, "")?;
     assert!(rt; bytes.len() < 1000);
     let log = read_log(rt.alloc(), &config, &bytes)?;

@@ -1,8 +1,9 @@
-ghost use Rattle.std.specs.Prelude.{◌≡◌, ◌≤◌, length, slice_get};
-ghost use Rattle.std.specs.List.{after_first, before_first};
-ghost use Rattle.std.specs.Option.{option_copied};
+ghost use Rattle.std.specs.Prelude.{◌≡◌, ◌≤◌, length};
+ghost use Rattle.std.specs.List.{after_first, before_first, position_or_len};
 ghost use Rattle.std.specs.Str.{bytes_eq};
-ghost use Rattle.run_log.specs.LineWords.{digit_of, is_dot, is_hash, is_space, number_of, small_of, word_at, words_of};
+ghost use Rattle.run_log.specs.LineWords.{digit_of, first_of, is_dot, is_hash, is_space, number_of, rest_of, small_of, words_of};
+
+use std::marker::Model;
 
 // Whether the byte separates words.
 #[tactic(auto, unfolding(crate::specs::LineWords::is_space))]
@@ -12,28 +13,98 @@ fn is_space(b: u8) -> bool
     b == b' '
 }
 
-// The word of a line at a place, where there is one.
-fn some_word(line: &[u8], place: usize) -> Option<&[u8]>
-    ensures { option_copied result ≡ slice_get (words_of line.now) place }
+// How many bytes stand before the first space.
+#[tactic(auto, unfolding(crate::specs::LineWords::is_space))]
+fn word_length(line: &[u8]) -> usize
+    ensures { result ≡ position_or_len is_space line.now }
 {
-    line.split(|b| is_space(*b)).nth(place)
-}
-
-/// The word of a line at a place, or nothing past the last word.
-pub fn word_at(line: &[u8], place: usize) -> &[u8]
-    ensures { result.now ≡ word_at (words_of line.now) place }
-{
-    match some_word(line, place) {
-        Some(word) => word,
-        None => &[],
+    for (i, b) in line.iter().enumerate() {
+        if is_space(*b) {
+            return i;
+        }
     }
+    line.len()
 }
 
-/// How many words a line has.
-pub fn word_count(line: &[u8]) -> usize
+// How many words a line has.
+fn word_count(line: &[u8]) -> usize
     ensures { result ≡ length (words_of line.now) }
 {
     line.split(|b| is_space(*b)).count()
+}
+
+/// The words of a line that are left to take, from the left.
+#[derive(Drop)]
+pub struct Words<'a> {
+    line: &'a [u8],
+    more: bool,
+}
+
+impl<'a> Model for Words<'a> {
+    ghost use Rattle.std.specs.Prelude.{ℕ, List, [], if◌then◌else◌};
+    ghost use Rattle.run_log.specs.LineWords.{words_of};
+
+    ghost Value = { List (List ℕ) };
+
+    ghost view = { λ w. if w.more then words_of w.line.now else [] };
+}
+
+impl<'a> Words<'a> {
+    /// All words of a line.
+    pub fn of(line: &'a [u8]) -> Words<'a>
+        ensures { result ≡ words_of line.now }
+    {
+        Words { line, more: true }
+    }
+
+    /// Takes the next word, or nothing where none is left.
+    pub fn next_word(&mut self) -> &'a [u8]
+        ensures value { result.now ≡ first_of self.old }
+        ensures rest { self.new ≡ rest_of self.old }
+    {
+        if !self.more {
+            return &[];
+        }
+        let line = self.line;
+        let end = word_length(line);
+        if end >= line.len() {
+            self.more = false;
+            return line;
+        }
+        self.line = &line[end + 1..];
+        &line[..end]
+    }
+
+    /// How many words are left.
+    pub fn count(&self) -> usize
+        ensures { result ≡ length self.now }
+    {
+        if self.more { word_count(self.line) } else { 0 }
+    }
+
+    /// Takes a decimal number of 32 bits.
+    pub fn decimal(&mut self) -> u32
+        ensures value { result ≡ number_of 10 (first_of self.old) }
+        ensures rest { self.new ≡ rest_of self.old }
+    {
+        number_of(10, self.next_word())
+    }
+
+    /// Takes a hexadecimal number of 32 bits.
+    pub fn hex(&mut self) -> u32
+        ensures value { result ≡ number_of 16 (first_of self.old) }
+        ensures rest { self.new ≡ rest_of self.old }
+    {
+        number_of(16, self.next_word())
+    }
+
+    /// Takes a decimal number of 8 bits.
+    pub fn small(&mut self) -> u8
+        ensures value { result ≡ small_of (first_of self.old) }
+        ensures rest { self.new ≡ rest_of self.old }
+    {
+        small_of(self.next_word())
+    }
 }
 
 /// Whether the word is this text.
@@ -105,18 +176,4 @@ pub fn small_of(word: &[u8]) -> u8
     ensures { result ≡ small_of word.now }
 {
     number_of(10, word).min(255) as u8
-}
-
-/// The number of 8 bits at a place of a line.
-pub fn small_at(line: &[u8], place: usize) -> u8
-    ensures { result ≡ small_of (word_at (words_of line.now) place) }
-{
-    small_of(word_at(line, place))
-}
-
-/// The hexadecimal number of 32 bits at a place of a line.
-pub fn hex_at(line: &[u8], place: usize) -> u32
-    ensures { result ≡ number_of 16 (word_at (words_of line.now) place) }
-{
-    number_of(16, word_at(line, place))
 }

@@ -102,7 +102,8 @@ fn two_boxes(
     requires first { first.rights ≡ read_write }
     requires second { second.rights ≡ read_write }
     ensures { IfOk result
-        (λ f. IsResolvable (parts_of f.board f.boxes.items f.gates f.devices.items (map string_bytes f.script.items))) }
+        (λ f. IsResolvable (parts_of f.board f.boxes.items f.gates
+        f.devices.items (map string_bytes f.script.items))) }
 {
     let mut boxes = Vec::new(alloc);
     boxes.push(plain_box(alloc, "a", first)?)?;

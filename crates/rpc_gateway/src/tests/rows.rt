@@ -1,5 +1,5 @@
 ghost use Rattle.std.specs.Prelude.{◌≡◌, ◌+◌, ◌≤◌, true, length};
-ghost use Rattle.rpc_gateway.specs.Sample.{sample_config};
+ghost use Rattle.rpc_gateway.specs.Sample.{three_boxes};
 ghost use Rattle.rpc_gateway.specs.Servers.{is_server_thread};
 
 use crate::Calls;
@@ -33,7 +33,7 @@ enum Answer {
 }
 
 fn server_of(b: BoxId) -> ThreadId
-    ensures { is_server_thread sample_config result.0 ≡ true }
+    ensures { is_server_thread three_boxes result.0 ≡ true }
 {
     match b.0 {
         0 => SERVER,
@@ -44,7 +44,7 @@ fn server_of(b: BoxId) -> ThreadId
 
 // A start by a server that serves no call.
 fn start(rt: &impl Abort, calls: &mut Calls, b: BoxId, ticket: Ticket) -> Answer
-    requires { calls.old.config ≡ sample_config }
+    requires { calls.old.config ≡ three_boxes }
     ensures config { calls.new.config ≡ calls.old.config }
     ensures spare { calls.new.spare ≡ calls.old.spare }
 {
@@ -57,7 +57,7 @@ fn start(rt: &impl Abort, calls: &mut Calls, b: BoxId, ticket: Ticket) -> Answer
 }
 
 fn answer_to(rt: &impl Abort, calls: &mut Calls, step: Step) -> Answer
-    requires config { calls.old.config ≡ sample_config }
+    requires config { calls.old.config ≡ three_boxes }
     requires spare { 1 ≤ calls.old.spare }
     ensures config { calls.new.config ≡ calls.old.config }
     ensures spare { calls.old.spare ≤ calls.new.spare + 1 }

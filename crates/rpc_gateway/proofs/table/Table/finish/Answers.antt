@@ -1,0 +1,44 @@
+use Rattle.std.proofs.Common.{◌≡◌, ◌-◌, List, Some, length, set, sym, ap, ◌∙◌, arith, length-set, refl}
+use Rattle.std.specs.List.{slice_get}
+use Rattle.std.specs.Vec.{vec_capacity}
+use Rattle.std.proofs.lemmas.Option.{slice_get_within}
+use Rattle.flat_model.specs.declared.states.Call.{Call}
+use Rattle.flat_model.specs.declared.states.CallState.TheVariants as state
+use Rattle.flat_model.specs.Calls.{with_state}
+use Rattle.rpc_gateway.specs.Table.{TableView, call_in}
+use Rattle.rpc_gateway.proofs.NumberLemmas.{with_state-at}
+use Rattle.rpc_gateway.proofs.TableLemmas.{IsTable-finish, IsTable-same, started_open, table_view}
+use Rattle.rpc_gateway.proofs.table.Table.finish.Goals as goal
+
+pub put_call-requires : goal.put_call-requires
+put_call-requires c =
+    let there : slice_get c.self.inside.calls.items c.args.found.place ≡ Some c.args.found.call =
+    ap (λ (v : TableView). slice_get v.calls c.args.found.place) c.self.view_is ∙ c.requires.there in
+    slice_get_within c.self.inside.calls.items c.args.found.place c.args.found.call there
+
+pub invariant_of-self : goal.invariant_of-self
+invariant_of-self c =
+    let there : slice_get c.self.inside.calls.items c.args.found.place ≡ Some c.args.found.call =
+    ap (λ (v : TableView). slice_get v.calls c.args.found.place) c.self.view_is ∙ c.requires.there in
+    IsTable-same _ _ _ _ _ _ _ _ _ _ _ _ c.put_call.ensures.items c.put_call.ensures.capacity
+    refl refl refl refl
+    (IsTable-finish c.self.inside.calls.items (vec_capacity c.self.inside.calls) c.self.inside.posted c.self.inside.uncollected c.self.inside.waiting c.self.inside.made c.self.invariant
+    c.args.found.place c.args.found.call c.args.v there c.requires.started)
+
+pub returns-clause-place : goal.returns-clause-place
+returns-clause-place c = c.put_call.ensures.items ∙ ap (λ (v : TableView). set v.calls c.args.found.place (call_in (state.Done c.args.v) c.args.found.call)) c.self.view_is
+
+pub returns-clause-exact : goal.returns-clause-exact
+returns-clause-exact c =
+    let there : slice_get c.self.inside.calls.items c.args.found.place ≡ Some c.args.found.call =
+    ap (λ (v : TableView). slice_get v.calls c.args.found.place) c.self.view_is ∙ c.requires.there in
+    let calls : c.put_call.new.calls.items ≡ with_state c.args.found.call.ticket (state.Done c.args.v) c.args.self.now.calls =
+    c.put_call.ensures.items
+    ∙ (sym (with_state-at c.self.inside.calls.items c.args.found.place c.args.found.call (state.Done c.args.v) there ((started_open c.args.found.call.state c.requires.started).1) c.self.invariant.numbered)
+    ∙ ap (λ (v : TableView). with_state c.args.found.call.ticket (state.Done c.args.v) v.calls) c.self.view_is) in
+    let kept : length c.put_call.new.calls.items ≡ length c.self.inside.calls.items =
+    ap (λ (x : List Call). length x) c.put_call.ensures.items
+    ∙ length-set c.self.inside.calls.items c.args.found.place (call_in (state.Done c.args.v) c.args.found.call) in
+    let spare : vec_capacity c.put_call.new.calls - length c.put_call.new.calls.items ≡ c.args.self.now.spare =
+    omega (arith, kept, c.put_call.ensures.capacity, ap (λ (v : TableView). v.spare) c.self.view_is) in
+    table_view _ _ _ _ calls spare
