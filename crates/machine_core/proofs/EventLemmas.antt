@@ -1,7 +1,8 @@
 -- What a script's word for a thread is, from what the machine does.
-use Rattle.std.proofs.Common.{◌≡◌, ℕ, ◌<◌, Bool, true, Option, Some, None, List, [], ◌∷◌, ◌++◌, map, refl, sym, ap, ◌∙◌, subst, length}
+use Rattle.std.proofs.Common.{◌≡◌, ℕ, ◌<◌, Bool, true, ◌&&◌, Option, Some, None, List, [], ◌∷◌, ◌++◌, map, refl, sym, ap, ◌∙◌, subst, length}
 use Rattle.std.specs.List.{slice_get, slice_set}
 use Rattle.std.specs.Option.{option_map, option_map_or}
+use Rattle.std.proofs.lemmas.Bool.{and_parts}
 use Rattle.std.proofs.lemmas.Option.{slice_get_within}
 use Rattle.addr_base.specs.declared.identity.BoxId.{BoxId}
 use Rattle.addr_base.specs.declared.identity.Line.{Line}
@@ -40,7 +41,7 @@ use Rattle.flat_model.specs.Stepping.{CanGoOn}
 use Rattle.flat_model.specs.Sound.{IsSound}
 use Rattle.flat_model.specs.Trace.{World, event_items, opening_world, world_after}
 use Rattle.flat_model.specs.UnitRun.{UnitState, accessed, entered, lines_of_event, unit_after, unit_after_event, unit_lines}
-use Rattle.flat_model.specs.Want.{fits, is_owned_line, want_by, want_of, want_of_actor, wants_next}
+use Rattle.flat_model.specs.Want.{fits, is_owned_line, is_thread, want_by, want_of, want_of_actor, wants_next}
 use Rattle.flat_model.proofs.AccessReplies.{IsFit, next-fit}
 use Rattle.flat_model.proofs.ActorLemmas.{actor-there}
 use Rattle.flat_model.proofs.Agreement.{granted-held-by}
@@ -51,7 +52,9 @@ use Rattle.flat_model.proofs.TraceLemmas.{world_after_all-append}
 use Rattle.flat_model.proofs.WantLemmas.{want-free}
 use Rattle.machine_core.specs.declared.deeds.Deed.{Deed}
 use Rattle.machine_core.specs.declared.deeds.Deed.TheVariants as deed
-use Rattle.machine_core.specs.Deeds.{choice_by, deed_by_want, deed_row, empties_by_deed, serve_choice, touch_by_deed}
+use Rattle.machine_core.specs.declared.deeds.Order.{Order}
+use Rattle.machine_core.specs.declared.deeds.Order.TheVariants as order
+use Rattle.machine_core.specs.Deeds.{IsFitOrder, choice_by, choice_by_order, deed_by_order, deed_by_want, deed_row, empties_by_deed, serve_choice, touch_by_deed}
 use Rattle.machine_core.specs.Events.{MayDo, access_granted}
 use Rattle.machine_core.specs.Journal.{JournalState, noted}
 use Rattle.machine_core.specs.Kept.{IsKeptState, IsReached}
@@ -83,25 +86,25 @@ reached-after cfg w c it = record {
 -- ---- rings
 
 -- a ring of a line that a box owns
-ring-step : (cfg : Config) (f : Flat) (line : Line) → is_owned_line cfg line.0 ≡ true → step cfg f (choice.Ring line 0) ≡ (rung f line.0, reply.Done)
-ring-step cfg f line owned = step-fits cfg f (choice.Ring line 0) owned
+ring-step : (cfg : Config) (f : Flat) (line : Line) (by : ℕ) → is_owned_line cfg line.0 ≡ true → step cfg f (choice.Ring line by) ≡ (rung f line.0, reply.Done)
+ring-step cfg f line by owned = step-fits cfg f (choice.Ring line by) owned
 
 -- the world after it
-pub ring-world : (cfg : Config) (k : KernelState) (threads : List ThreadState) (u : UnitState) (line : Line) → is_owned_line cfg line.0 ≡ true →
-    world_with (after_ring k line.0) threads u ≡ world_after cfg (world_with k threads u) (choice.Ring line 0)
-ring-world cfg k threads u line owned =
-    sym (world-is cfg (world_with k threads u) (choice.Ring line 0) _ u
-    (ap (λ (p : Flat × Reply). p.0) (ring-step cfg (world_with k threads u).flat line owned)) (after-idle cfg (world_with k threads u).flat u (choice.Ring line 0) refl))
+pub ring-world : (cfg : Config) (k : KernelState) (threads : List ThreadState) (u : UnitState) (line : Line) (by : ℕ) → is_owned_line cfg line.0 ≡ true →
+    world_with (after_ring k line.0) threads u ≡ world_after cfg (world_with k threads u) (choice.Ring line by)
+ring-world cfg k threads u line by owned =
+    sym (world-is cfg (world_with k threads u) (choice.Ring line by) _ u
+    (ap (λ (p : Flat × Reply). p.0) (ring-step cfg (world_with k threads u).flat line by owned)) (after-idle cfg (world_with k threads u).flat u (choice.Ring line by) refl))
 
 -- its entry is the event
-pub ring-noted : (cfg : Config) (w : World) (line : Line) (j : JournalState) → is_owned_line cfg line.0 ≡ true →
-    noted j (item.Core (record { choice = choice.Ring line 0; reply = reply.Done }) ∷ []) ≡ noted j (event_items cfg w (choice.Ring line 0))
+pub ring-noted : (cfg : Config) (w : World) (line : Line) (by : ℕ) (j : JournalState) → is_owned_line cfg line.0 ≡ true →
+    noted j (item.Core (record { choice = choice.Ring line by; reply = reply.Done }) ∷ []) ≡ noted j (event_items cfg w (choice.Ring line by))
 unfolding event_items
-ring-noted cfg w line j owned =
+ring-noted cfg w line by j owned =
     sym (
-    ap (λ (ls : List UnitLine). noted j (map item.Unit ls ++ item.Core (record { choice = choice.Ring line 0; reply = reply_to cfg w.flat (choice.Ring line 0) }) ∷ []))
-    (lines-idle cfg w.flat w.unit (choice.Ring line 0) refl)
-    ∙ ap (λ (p : Flat × Reply). noted j (item.Core (record { choice = choice.Ring line 0; reply = p.1 }) ∷ [])) (ring-step cfg w.flat line owned)
+    ap (λ (ls : List UnitLine). noted j (map item.Unit ls ++ item.Core (record { choice = choice.Ring line by; reply = reply_to cfg w.flat (choice.Ring line by) }) ∷ []))
+    (lines-idle cfg w.flat w.unit (choice.Ring line by) refl)
+    ∙ ap (λ (p : Flat × Reply). noted j (item.Core (record { choice = choice.Ring line by; reply = p.1 }) ∷ [])) (ring-step cfg w.flat line by owned)
     )
 
 -- ---- an event of nobody
@@ -140,16 +143,6 @@ choice-by cfg f t home is want.Next =
     by_oldest : (o : Option Call) → serve_choice t (option_map (λ (c : Call). c.ticket) o) ≡ start_or_idle t o
     by_oldest None = refl
     by_oldest (Some c) = refl
-
-may-by : (cfg : Config) (who : Who) (part : BoxPart) (m : Shared) (b : ℕ) (w : Want) → (wants_next w ≡ true → is_free_server who part m ≡ true) →
-    MayDo who part m (deed_by_want cfg m b w)
-may-by cfg who part m b want.Plain free = tt
-may-by cfg who part m b (want.Room target) free = tt
-may-by cfg who part m b want.Next free = free refl
-
--- a server's event is of one that serves no call
-pub may-do : (cfg : Config) (who : Who) (part : BoxPart) (m : Shared) (n : Next) → MayDo who part m (deed_by_want cfg m who.home.0 (want_by cfg who part m n))
-may-do cfg who part m n = may-by cfg who part m who.home.0 (want_by cfg who part m n) (λ wants. want-free cfg who part m n wants)
 
 -- who acts in a state acts in what its fields make
 pub acts-in : (s : MachineState) (cfg : Config) (w : World) (who : Who) (part : BoxPart) (program : ThreadPart) → state_of cfg w ≡ s →
@@ -207,13 +200,37 @@ module _ (cfg : Config) (k : KernelState) (threads : List ThreadState) (u : Unit
         choice-by cfg (world_with k threads u).flat who.thread who.home home-is (want_by cfg who part k.shared n)
         ∙ ap (choice_by_want cfg (world_with k threads u).flat who.thread) (sym wants)
 
-    module _ (d : Deed) (is : d ≡ deed_by_want cfg k.shared who.home.0 (want_by cfg who part k.shared n)) where
-      pub chosen : choice_by who.thread d ≡ choice_of_thread cfg (world_with k threads u).flat who.thread
-      chosen = ap (choice_by who.thread) is ∙ script-choice
+    -- what an order has it do is the order's choice
+    pub chosen : (o : Order) (d : Deed) → d ≡ deed_by_order cfg k.shared who.home.0 (want_by cfg who part k.shared n) o →
+        choice_by who.thread d ≡ choice_by_order cfg (world_with k threads u).flat who.thread o
+    chosen order.Word d is = ap (choice_by who.thread) is ∙ script-choice
+    chosen (order.Given e) d is = ap (choice_by who.thread) is
 
-      fit : fits cfg (world_with k threads u).flat (choice_by who.thread d) ≡ true
-      fit = ap (fits cfg (world_with k threads u).flat) chosen ∙ script-fits cfg (world_with k threads u).flat who.thread there kept.callers
+    fits-order : (o : Order) → IsFitOrder cfg (world_with k threads u).flat who.thread o →
+        fits cfg (world_with k threads u).flat (choice_by_order cfg (world_with k threads u).flat who.thread o) ≡ true
+    fits-order order.Word fit = script-fits cfg (world_with k threads u).flat who.thread there kept.callers
+    fits-order (order.Given d) fit = fit
 
+    -- and it fits
+    pub chosen-fits : (o : Order) (d : Deed) → d ≡ deed_by_order cfg k.shared who.home.0 (want_by cfg who part k.shared n) o →
+        IsFitOrder cfg (world_with k threads u).flat who.thread o → fits cfg (world_with k threads u).flat (choice_by who.thread d) ≡ true
+    chosen-fits o d is fit = ap (fits cfg (world_with k threads u).flat) (chosen o d is) ∙ fits-order o fit
+
+    may-fit : (d : Deed) → fits cfg (world_with k threads u).flat (choice_by who.thread d) ≡ true → MayDo who part k.shared d
+    may-fit (deed.Turn room) fit = tt
+    may-fit (deed.Serve None) fit =
+        want-free cfg who part k.shared n (sym (ap wants_next wants)
+        ∙ (and_parts (is_thread cfg who.thread) (wants_next (want_of cfg (world_with k threads u).flat who.thread.0)) fit).1)
+    may-fit (deed.Serve (Some ticket)) fit =
+        want-free cfg who part k.shared n (sym (ap wants_next wants)
+        ∙ (and_parts (is_thread cfg who.thread && is_thread cfg ticket.thread) (wants_next (want_of cfg (world_with k threads u).flat who.thread.0)) fit).1)
+
+    -- a server's event is of one that serves no call
+    pub may-order : (o : Order) (d : Deed) → d ≡ deed_by_order cfg k.shared who.home.0 (want_by cfg who part k.shared n) o →
+        IsFitOrder cfg (world_with k threads u).flat who.thread o → MayDo who part k.shared d
+    may-order o d is fit = may-fit d (chosen-fits o d is fit)
+
+    module _ (d : Deed) (fit : fits cfg (world_with k threads u).flat (choice_by who.thread d) ≡ true) where
       -- the unit grants its access exactly where the box holds the bytes
       granted-is : access_granted (accessed (plan_of cfg k.shared.owners who.home.0 part) (entered cfg part u who.home) (touch_in n)) (touch_in n)
           ≡ holds_next cfg.board program.home.0 part k.shared.owners n

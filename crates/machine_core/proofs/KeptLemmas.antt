@@ -24,12 +24,12 @@ use Rattle.flat_model.specs.Actors.{Actor, actor_of, who_acts}
 use Rattle.flat_model.specs.Next.{holds_next, is_page_turn, next_of_actor, touch_in}
 use Rattle.flat_model.specs.Plan.{plan_of}
 use Rattle.flat_model.specs.Script.{choice_by_want, choice_of_thread}
-use Rattle.flat_model.specs.Step.{empties_slots, is_page_turn_by, is_status, reply_to, step, touch_by, touch_of, turn_by}
+use Rattle.flat_model.specs.Step.{empties_slots, fitting_step, is_page_turn_by, is_status, reply_to, serve_by, step, touch_by, touch_of, turn_by}
 use Rattle.flat_model.specs.Stepping.{CanGoOn}
 use Rattle.flat_model.specs.StepsLeft.{steps_left}
 use Rattle.flat_model.specs.Thread.{has_ended}
 use Rattle.flat_model.specs.Trace.{World, event_items, world_after}
-use Rattle.flat_model.specs.UnitRun.{UnitState, access_lines, entered, flush_lines, lines_of_actor, lines_of_event, switch_lines, unit_lines}
+use Rattle.flat_model.specs.UnitRun.{UnitState, access_lines, actor_at, entered, flush_lines, lines_of_actor, lines_of_event, switch_lines, unit_lines}
 use Rattle.flat_model.specs.Want.{fits, want_of, want_of_actor}
 use Rattle.flat_model.proofs.ActorLemmas.{actor-is}
 use Rattle.flat_model.proofs.Budgets.{CountsOne, serve-counts, turn-counts}
@@ -39,7 +39,9 @@ use Rattle.flat_model.proofs.NamedLogs.{length-state_after}
 use Rattle.flat_model.proofs.StepCases.{step-fits, step-unfit}
 use Rattle.machine_core.specs.declared.deeds.Deed.{Deed}
 use Rattle.machine_core.specs.declared.deeds.Deed.TheVariants as deed
-use Rattle.machine_core.specs.Deeds.{choice_by, deed_by_want, deed_row}
+use Rattle.machine_core.specs.declared.deeds.Order.{Order}
+use Rattle.machine_core.specs.declared.deeds.Order.TheVariants as order
+use Rattle.machine_core.specs.Deeds.{choice_by, choice_by_order, deed_by_want, deed_row, idle_choice}
 use Rattle.machine_core.specs.Journal.{JournalState, noted}
 use Rattle.machine_core.specs.Kept.{HasCallers, IsKeptState}
 use Rattle.machine_core.specs.State.{ended_in, event_room}
@@ -65,16 +67,37 @@ kept-after cfg w c kept = record {
 
 -- ---- an event of nobody
 
-pub step-nobody : (cfg : Config) (f : Flat) (t : ThreadId) → actor_of cfg f t.0 ≡ None → step cfg f (choice.Turn t true) ≡ (f, reply.Ended)
-step-nobody cfg f t none = by_fit (fits cfg f (choice.Turn t true)) refl
-  where
-    by_fit : (b : Bool) → fits cfg f (choice.Turn t true) ≡ b → step cfg f (choice.Turn t true) ≡ (f, reply.Ended)
-    by_fit true fit = step-fits cfg f (choice.Turn t true) fit ∙ ap (turn_by cfg f t true) none
-    by_fit false fit = step-unfit cfg f (choice.Turn t true) fit
+fitting-nobody : (cfg : Config) (f : Flat) (t : ThreadId) (d : Deed) → actor_of cfg f t.0 ≡ None → fitting_step cfg f (choice_by t d) ≡ (f, reply.Ended)
+fitting-nobody cfg f t (deed.Turn room) none = ap (turn_by cfg f t room) none
+fitting-nobody cfg f t (deed.Serve None) none = ap (serve_by cfg f t None) none
+fitting-nobody cfg f t (deed.Serve (Some ticket)) none = ap (serve_by cfg f t (Some ticket)) none
 
--- the script's word for a thread that nobody is
-pub choice-nobody : (cfg : Config) (f : Flat) (t : ThreadId) → actor_of cfg f t.0 ≡ None → choice_of_thread cfg f t ≡ choice.Turn t true
-choice-nobody cfg f t none = ap (λ a. choice_by_want cfg f t (want_of_actor cfg f.shared t a)) none
+-- it changes nothing
+step-by-nobody : (cfg : Config) (f : Flat) (t : ThreadId) (d : Deed) → actor_of cfg f t.0 ≡ None → step cfg f (choice_by t d) ≡ (f, reply.Ended)
+step-by-nobody cfg f t d none = by_fit (fits cfg f (choice_by t d)) refl
+  where
+    by_fit : (b : Bool) → fits cfg f (choice_by t d) ≡ b → step cfg f (choice_by t d) ≡ (f, reply.Ended)
+    by_fit true fit = step-fits cfg f (choice_by t d) fit ∙ fitting-nobody cfg f t d none
+    by_fit false fit = step-unfit cfg f (choice_by t d) fit
+
+pub step-nobody : (cfg : Config) (f : Flat) (t : ThreadId) (o : Order) → actor_of cfg f t.0 ≡ None → step cfg f (idle_choice t o) ≡ (f, reply.Ended)
+step-nobody cfg f t order.Word none = step-by-nobody cfg f t (deed.Turn true) none
+step-nobody cfg f t (order.Given d) none = step-by-nobody cfg f t d none
+
+-- the unit does nothing then
+actor-nobody : (cfg : Config) (f : Flat) (t : ThreadId) (d : Deed) → actor_of cfg f t.0 ≡ None → actor_at cfg f (choice_by t d) ≡ None
+actor-nobody cfg f t (deed.Turn room) none = none
+actor-nobody cfg f t (deed.Serve None) none = none
+actor-nobody cfg f t (deed.Serve (Some ticket)) none = none
+
+pub at-nobody : (cfg : Config) (f : Flat) (t : ThreadId) (o : Order) → actor_of cfg f t.0 ≡ None → actor_at cfg f (idle_choice t o) ≡ None
+at-nobody cfg f t order.Word none = none
+at-nobody cfg f t (order.Given d) none = actor-nobody cfg f t d none
+
+-- an order for a thread that nobody is
+pub choice-nobody : (cfg : Config) (f : Flat) (t : ThreadId) (o : Order) → actor_of cfg f t.0 ≡ None → choice_by_order cfg f t o ≡ idle_choice t o
+choice-nobody cfg f t order.Word none = ap (λ a. choice_by_want cfg f t (want_of_actor cfg f.shared t a)) none
+choice-nobody cfg f t (order.Given d) none = refl
 
 -- ---- an event of an actor
 
@@ -95,29 +118,36 @@ deed-counts cfg a t f granted n (deed.Serve ticket) = serve-counts cfg a.program
 
 -- an actor's event takes one of the steps that are left
 pub left-live : (cfg : Config) (w : World) (t : ThreadId) → IsKeptState cfg w → (a : Actor) → actor_of cfg w.flat t.0 ≡ Some a →
-    steps_left cfg.threads (world_after cfg w (choice_of_thread cfg w.flat t)).flat.threads + 1 ≤ steps_left cfg.threads w.flat.threads
-left-live cfg w t kept a acting =
+    (d : Deed) → fits cfg w.flat (choice_by t d) ≡ true →
+    steps_left cfg.threads (world_after cfg w (choice_by t d)).flat.threads + 1 ≤ steps_left cfg.threads w.flat.threads
+left-live cfg w t kept a acting d fit =
     let it = actor-is cfg w.flat t.0 a acting in
     let n = next_of_actor w.flat.shared.lines a t.0 in
-    let d = deed_by_want cfg w.flat.shared a.program.home.0 (want_of cfg w.flat t.0) in
     let granted = holds_next cfg.board a.program.home.0 a.part w.flat.shared.owners n in
     let v : ThreadState = (deed_row cfg (who_acts a t true) a.part a.program.steps w.flat.shared a.thread granted n d).thread in
     let one = deed-counts cfg a t w.flat granted n d in
     let below = (kept.going.budgets t.0 a.program a.thread it.program it.thread it.live).steps in
     let less = steps_left-set cfg.threads w.flat.threads t.0 a.program a.thread v 1 it.program it.thread (left-one a.program a.thread v one it.live below) in
-    let stepped : (world_after cfg w (choice_of_thread cfg w.flat t)).flat.threads ≡ slice_set w.flat.threads t.0 v =
-    ap (λ (g : Flat). g.threads) (flat-after cfg w (choice_of_thread cfg w.flat t))
-    ∙ ap (λ c. (step cfg w.flat c).0.threads) (sym (chosen-live cfg w.flat t a acting))
-    ∙ ap (λ (p : Flat × Reply). p.0.threads) (step-live cfg w.flat t a acting d (fits-live cfg w.flat t a acting kept.callers)) in
+    let stepped : (world_after cfg w (choice_by t d)).flat.threads ≡ slice_set w.flat.threads t.0 v =
+    ap (λ (g : Flat). g.threads) (flat-after cfg w (choice_by t d))
+    ∙ ap (λ (p : Flat × Reply). p.0.threads) (step-live cfg w.flat t a acting d fit) in
     subst (λ threads. steps_left cfg.threads threads + 1 ≤ steps_left cfg.threads w.flat.threads) (sym stepped) less
+
+-- what an actor does by a script's word
+pub left-script : (cfg : Config) (w : World) (t : ThreadId) → IsKeptState cfg w → (a : Actor) → actor_of cfg w.flat t.0 ≡ Some a →
+    steps_left cfg.threads (world_after cfg w (choice_of_thread cfg w.flat t)).flat.threads + 1 ≤ steps_left cfg.threads w.flat.threads
+left-script cfg w t kept a acting =
+    subst (λ c. steps_left cfg.threads (world_after cfg w c).flat.threads + 1 ≤ steps_left cfg.threads w.flat.threads)
+    (chosen-live cfg w.flat t a acting)
+    (left-live cfg w t kept a acting (deed_by_want cfg w.flat.shared a.program.home.0 (want_of cfg w.flat t.0)) (fits-live cfg w.flat t a acting kept.callers))
 
 -- an event of nobody leaves as many
 pub left-nobody : (cfg : Config) (w : World) (t : ThreadId) → actor_of cfg w.flat t.0 ≡ None →
     steps_left cfg.threads (world_after cfg w (choice_of_thread cfg w.flat t)).flat.threads ≡ steps_left cfg.threads w.flat.threads
 left-nobody cfg w t none =
     ap (λ (g : Flat). steps_left cfg.threads g.threads) (flat-after cfg w (choice_of_thread cfg w.flat t))
-    ∙ ap (λ c. steps_left cfg.threads (step cfg w.flat c).0.threads) (choice-nobody cfg w.flat t none)
-    ∙ ap (λ (p : Flat × Reply). steps_left cfg.threads p.0.threads) (step-nobody cfg w.flat t none)
+    ∙ ap (λ c. steps_left cfg.threads (step cfg w.flat c).0.threads) (choice-nobody cfg w.flat t order.Word none)
+    ∙ ap (λ (p : Flat × Reply). steps_left cfg.threads p.0.threads) (step-nobody cfg w.flat t order.Word none)
 
 -- and so does a ring
 pub left-ring : (cfg : Config) (w : World) (line : Line) (by : ℕ) →
@@ -197,20 +227,29 @@ lines-few cfg w t a acting (deed.Serve (Some ticket)) =
     subst (λ k. k ≤ 3) (sym (ap (λ (o : Option Actor). length (lines_of_actor cfg w.flat w.unit (choice.Start t ticket) o)) acting))
     (switch-length cfg a.program.home a.part (plan_of cfg w.flat.shared.owners a.program.home.0 a.part) w.unit)
 
--- the event of a thread's word has at most so many
-pub event-fits : (cfg : Config) (w : World) (t : ThreadId) → length (event_items cfg w (choice_of_thread cfg w.flat t)) ≤ event_room w t.0
-event-fits cfg w t = by_actor (actor_of cfg w.flat t.0) refl
+-- an actor's event has at most four
+pub event-few : (cfg : Config) (w : World) (t : ThreadId) (a : Actor) → actor_of cfg w.flat t.0 ≡ Some a → (d : Deed) →
+    length (event_items cfg w (choice_by t d)) ≤ 4
+event-few cfg w t a acting d = omega (arith, event-length cfg w (choice_by t d), lines-few cfg w t a acting d)
+
+-- what an actor does by an order has at most four
+order-few : (cfg : Config) (w : World) (t : ThreadId) (a : Actor) → actor_of cfg w.flat t.0 ≡ Some a → (o : Order) →
+    length (event_items cfg w (choice_by_order cfg w.flat t o)) ≤ 4
+order-few cfg w t a acting order.Word =
+    subst (λ c. length (event_items cfg w c) ≤ 4) (chosen-live cfg w.flat t a acting)
+    (event-few cfg w t a acting (deed_by_want cfg w.flat.shared a.program.home.0 (want_of cfg w.flat t.0)))
+order-few cfg w t a acting (order.Given d) = event-few cfg w t a acting d
+
+-- an ordered event has at most so many
+pub event-fits : (cfg : Config) (w : World) (t : ThreadId) (o : Order) → length (event_items cfg w (choice_by_order cfg w.flat t o)) ≤ event_room w t.0
+event-fits cfg w t o = by_actor (actor_of cfg w.flat t.0) refl
   where
-    by_actor : (a : Option Actor) → actor_of cfg w.flat t.0 ≡ a → length (event_items cfg w (choice_of_thread cfg w.flat t)) ≤ event_room w t.0
+    by_actor : (a : Option Actor) → actor_of cfg w.flat t.0 ≡ a → length (event_items cfg w (choice_by_order cfg w.flat t o)) ≤ event_room w t.0
     by_actor None none =
-        let lines = ap (λ c. length (unit_lines cfg w.flat w.unit c)) (choice-nobody cfg w.flat t none)
-        ∙ ap (λ (ls : List UnitLine). length ls) (lines-idle cfg w.flat w.unit (choice.Turn t true) none) in
-        omega (arith, event-length cfg w (choice_of_thread cfg w.flat t), lines, some-room w t.0)
-    by_actor (Some a) acting =
-        let d = deed_by_want cfg w.flat.shared a.program.home.0 (want_of cfg w.flat t.0) in
-        let lines = ap (λ c. length (unit_lines cfg w.flat w.unit c)) (sym (chosen-live cfg w.flat t a acting)) in
-        let few = lines-few cfg w t a acting d in
-        omega (arith, event-length cfg w (choice_of_thread cfg w.flat t), lines, few, live-room cfg w t.0 a acting)
+        let lines = ap (λ c. length (unit_lines cfg w.flat w.unit c)) (choice-nobody cfg w.flat t o none)
+        ∙ ap (λ (ls : List UnitLine). length ls) (lines-idle cfg w.flat w.unit (idle_choice t o) (at-nobody cfg w.flat t o none)) in
+        omega (arith, event-length cfg w (choice_by_order cfg w.flat t o), lines, some-room w t.0)
+    by_actor (Some a) acting = omega (arith, order-few cfg w t a acting o, live-room cfg w t.0 a acting)
 
 -- there is room for the entry behind the unit's lines
 pub room-for_entry : (cfg : Config) (w : World) (c : Choice) (j j1 : JournalState) →

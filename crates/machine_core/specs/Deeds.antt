@@ -1,5 +1,5 @@
 -- What an actor does in one event, for the flat machine and for the unit.
-use Rattle.std.specs.Prelude.{ℕ, Bool, true, false, ◌&&◌, not, nat_lt, Option, Some, None}
+use Rattle.std.specs.Prelude.{◌≡◌, ⊤, ℕ, Bool, true, false, ◌&&◌, not, nat_lt, Option, Some, None}
 use Rattle.std.specs.Option.{option_map}
 use Rattle.addr_base.specs.declared.identity.ThreadId.{ThreadId}
 use Rattle.addr_base.specs.declared.identity.Ticket.{Ticket}
@@ -13,6 +13,7 @@ use Rattle.flat_model.specs.declared.events.Want.TheVariants as want
 use Rattle.flat_model.specs.declared.next.Next.{Next}
 use Rattle.flat_model.specs.declared.parts.BoxPart.{BoxPart}
 use Rattle.flat_model.specs.declared.parts.Config.{Config}
+use Rattle.flat_model.specs.declared.states.Flat.{Flat}
 use Rattle.flat_model.specs.declared.states.Shared.{Shared}
 use Rattle.flat_model.specs.declared.states.ThreadState.{ThreadState}
 use Rattle.flat_model.specs.CallRows.{server_row}
@@ -20,11 +21,14 @@ use Rattle.flat_model.specs.Calls.{oldest_posted, posted_count}
 use Rattle.flat_model.specs.Next.{is_page_turn, touch_in}
 use Rattle.flat_model.specs.Outcome.{Outcome}
 use Rattle.flat_model.specs.Step.{is_status}
+use Rattle.flat_model.specs.Script.{choice_of_thread}
 use Rattle.flat_model.specs.Thread.{counted}
 use Rattle.flat_model.specs.Turn.{turn_row, within_budget}
-use Rattle.flat_model.specs.Want.{inbox_slots}
+use Rattle.flat_model.specs.Want.{fits, inbox_slots}
 use Rattle.machine_core.specs.declared.deeds.Deed.{Deed}
 use Rattle.machine_core.specs.declared.deeds.Deed.TheVariants as deed
+use Rattle.machine_core.specs.declared.deeds.Order.{Order}
+use Rattle.machine_core.specs.declared.deeds.Order.TheVariants as order
 
 -- the choice of a server's event
 abbrev pub serve_choice : ThreadId → Option Ticket → Choice
@@ -41,6 +45,26 @@ abbrev pub deed_by_want : Config → Shared → ℕ → Want → Deed
 deed_by_want cfg m b want.Plain = deed.Turn true
 deed_by_want cfg m b (want.Room target) = deed.Turn (nat_lt (posted_count target.0 m.calls) (inbox_slots cfg))
 deed_by_want cfg m b want.Next = deed.Serve (option_map (λ call. call.ticket) (oldest_posted b m.calls))
+
+-- what an order has a thread of the box with this number do that wants this
+abbrev pub deed_by_order : Config → Shared → ℕ → Want → Order → Deed
+deed_by_order cfg m b w order.Word = deed_by_want cfg m b w
+deed_by_order cfg m b w (order.Given d) = d
+
+-- the choice that an order has a thread make
+abbrev pub choice_by_order : Config → Flat → ThreadId → Order → Choice
+choice_by_order cfg f t order.Word = choice_of_thread cfg f t
+choice_by_order cfg f t (order.Given d) = choice_by t d
+
+-- the choice that it has a thread make that acts no more
+abbrev pub idle_choice : ThreadId → Order → Choice
+idle_choice t order.Word = choice.Turn t true
+idle_choice t (order.Given d) = choice_by t d
+
+-- an order that says what the thread does has it make a choice that fits
+abbrev pub IsFitOrder : Config → Flat → ThreadId → Order → Type 0
+IsFitOrder cfg f t order.Word = ⊤
+IsFitOrder cfg f t (order.Given d) = fits cfg f (choice_by t d) ≡ true
 
 -- the actor's row, whose turn comes to this
 abbrev pub deed_row : Config → Who → BoxPart → ℕ → Shared → ThreadState → Bool → Next → Deed → Outcome

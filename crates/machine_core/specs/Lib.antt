@@ -1,9 +1,15 @@
+pub mod Acting
+pub mod Boot
 pub mod Deeds
+pub mod Entries
 pub mod Events
 pub mod Fixture
 pub mod Journal
 pub mod Kept
 pub mod Parts
+pub mod Ready
+pub mod Rings
 pub mod State
+pub mod Turns
 pub mod Unit
 pub mod View

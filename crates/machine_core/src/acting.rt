@@ -8,7 +8,7 @@ ghost use Rattle.flat_model.specs.Step.{is_status};
 ghost use Rattle.flat_model.specs.Turn.{turn_row};
 ghost use Rattle.flat_model.specs.UnitRun as unit_words;
 ghost use Rattle.machine_core.specs.Events.{MayDo, access_granted};
-ghost use Rattle.machine_core.specs.Deeds as spec;
+ghost use Rattle.machine_core.specs.Acting as told;
 ghost use Rattle.machine_core.specs.Journal.{noted};
 
 use crate::deeds::Deed;
@@ -96,29 +96,16 @@ pub(crate) fn act(
     requires may { MayDo actor.who actor.part.now kernel.old.shared deed }
     requires room { 4 ≤ journal.old.room }
 
-    ensures exact { let plan = plan_of kernel.old.config kernel.old.shared.owners
-        actor.entry.who.home.0 actor.entry.part.now in
-        let entered = unit_words.entered kernel.old.config actor.entry.part.now unit.old.unit
-        actor.entry.who.home in
-        let touch = spec.touch_by_deed next deed in
-        spec.deed_row kernel.old.config actor.entry.who actor.entry.part.now
-        actor.entry.program.now.steps kernel.old.shared thread.old
-        (access_granted (unit_words.accessed plan entered touch) touch) next deed
+    ensures exact { told.acted_row kernel.old actor.entry.who actor.entry.part.now
+        actor.entry.program.now.steps thread.old unit.old.unit next deed
         ≡ outcome_of kernel.new thread.new result }
     ensures config { kernel.new.config ≡ kernel.old.config }
-    ensures unit { let plan = plan_of kernel.old.config kernel.old.shared.owners
-        actor.entry.who.home.0 actor.entry.part.now in
-        unit.new ≡ record unit.old {
-          unit = unit_words.unit_after_event kernel.old.config actor.entry.who.home
-              actor.entry.part.now plan unit.old.unit (spec.touch_by_deed next deed)
-              (spec.empties_by_deed next result deed);
-        } }
-    ensures journal { let plan = plan_of kernel.old.config kernel.old.shared.owners
-        actor.entry.who.home.0 actor.entry.part.now in
-        journal.new ≡ noted journal.old (map item.Unit
-        (unit_words.lines_of_event kernel.old.config actor.entry.who.home
-        actor.entry.part.now plan unit.old.unit (spec.touch_by_deed next deed)
-        (spec.empties_by_deed next result deed))) }
+    ensures unit { unit.new ≡ record unit.old {
+      unit = told.acted_unit kernel.old
+          actor.entry.who.home actor.entry.part.now unit.old.unit next result deed;
+    } }
+    ensures journal { journal.new ≡ noted journal.old (map item.Unit (told.acted_lines kernel.old
+        actor.entry.who.home actor.entry.part.now unit.old.unit next result deed)) }
 {
     unit.enter(actor.who.home, journal);
     match deed {

@@ -47,3 +47,35 @@ impl Deed {
         }
     }
 }
+
+/// What has an actor act: a script's word, or a call that says what it does.
+#[derive(Clone, Copy)]
+pub(crate) enum Order {
+    Word,
+    Given(Deed),
+}
+
+impl Order {
+    /// What it has the actor do, whose turn comes to this.
+    pub fn deed(self, actor: Actor<'_>, kernel: &MachineKernel, next: Next) -> Deed
+        requires { IsPartOf kernel.now.config actor.who.home.0 actor.part.now }
+        ensures { result ≡ spec.deed_by_order kernel.now.config kernel.now.shared
+            actor.entry.who.home.0 (want_words.want_by kernel.now.config actor.entry.who
+            actor.entry.part.now kernel.now.shared next) self }
+    {
+        match self {
+            Order::Word => Deed::of_script(actor, kernel, next),
+            Order::Given(deed) => deed,
+        }
+    }
+
+    /// The choice of a thread that does nothing.
+    pub fn idle_choice(self, t: ThreadId) -> Choice
+        ensures { result ≡ spec.idle_choice t self }
+    {
+        match self {
+            Order::Word => Choice::Turn { t, room: true },
+            Order::Given(deed) => deed.choice(t),
+        }
+    }
+}

@@ -7,9 +7,11 @@ mod journal;
 mod kernel;
 mod machine;
 mod state;
+mod stepping;
 mod tables;
 #[cfg(test)]
 mod tests;
 mod unit;
 
 pub use machine::Machine;
+pub use stepping::{MachineFixed, an_event_adds_one_entry};

@@ -1,4 +1,5 @@
-ghost use Rattle.std.specs.Prelude.{◌≡◌, ◌+◌, ◌-◌, ◌*◌, ◌<◌, ◌≤◌, true, [], IfOk, length, map, sum_by, vec_capacity, if◌then◌else◌};
+ghost use Rattle.std.specs.Prelude.{◌≡◌, ◌+◌, ◌-◌, ◌*◌, ◌<◌, ◌≤◌, true, [], IfOk, length, map, replicate, sum_by, vec_capacity, if◌then◌else◌};
+ghost use Rattle.addr_base.specs.declared.identity.BoxId.{BoxId};
 ghost use Rattle.flat_model.specs.Legal.{IsLegal};
 ghost use Rattle.flat_model.specs.Log.{choices_of};
 ghost use Rattle.flat_model.specs.OneLog.{log_of_choices};
@@ -6,12 +7,20 @@ ghost use Rattle.flat_model.specs.Run.{end_of_thread};
 ghost use Rattle.flat_model.specs.Sound.{IsSound};
 ghost use Rattle.flat_model.specs.Want.{is_owned_line, want_of};
 ghost use Rattle.machine_core.specs.State.{ended_in};
-ghost use Rattle.machine_core.specs.View.{booted, events_beside, rung, stepped, world_of};
+ghost use Rattle.machine_core.specs.Deeds.{choice_by};
+ghost use Rattle.machine_core.specs.Entries.{HasGrown, entry_now};
+ghost use Rattle.machine_core.specs.Boot.{IsOpening};
+ghost use Rattle.machine_core.specs.Kept.{HasEnds};
+ghost use Rattle.machine_core.specs.Ready.{IsReady};
+ghost use Rattle.machine_core.specs.Turns.{log_now, serves_box};
+ghost use Rattle.machine_core.specs.View.{after_event, boot_room, booted, events_beside, rung, stepped, world_of};
 
+use crate::deeds::{Deed, Order};
 use crate::journal::Journal;
 use crate::state::State;
 use flat_model::{
-    Config, Drive, End, Items, Line, Log, OutOfMemory, ThreadId, ThreadPart, ThreadState, Want,
+    Config, Drive, End, Items, Line, Log, OutOfMemory, Reply, ThreadId, ThreadPart, ThreadState,
+    Want,
 };
 use std::alloc::Global;
 use std::marker::Model;
@@ -25,12 +34,14 @@ pub struct Machine {
     extra: u32,
     state: State,
     journal: Journal,
+    // With running threads, how many rings each device has made.
+    rings: Items<u32>,
     ends: Vec<End>,
 }
 
 impl Model for Machine {
     ghost use Rattle.std.specs.Prelude.{◌≡◌, vec_capacity};
-    ghost use Rattle.machine_core.specs.Kept.{HasEnds, IsKept};
+    ghost use Rattle.machine_core.specs.Kept.{CountsRings, HasEnds, IsKept, events_left};
     ghost use Rattle.machine_core.specs.View.{MachineView};
 
     ghost Value = { MachineView };
@@ -44,8 +55,9 @@ impl Model for Machine {
     } };
 
     ghost invariant = { λ m. (m.state.config ≡ m.config)
-        × IsKept m.config m.drive m.extra m.journal m.state.world
-        × HasEnds m.config m.ends.items (vec_capacity m.ends) };
+        × IsKept m.config (events_left m.drive m.extra m.rings) m.journal m.state.world
+        × HasEnds m.config m.ends.items (vec_capacity m.ends)
+        × CountsRings m.config m.drive m.journal.items m.rings };
 }
 
 // How many steps the threads may take in all.
@@ -60,14 +72,113 @@ fn total_steps(threads: &[ThreadPart]) -> usize
     total
 }
 
+// How many rings so many devices may make in all.
+fn rings_of(extra: u32, devices: usize) -> usize
+    requires { devices ≤ 4 }
+    ensures exact { result ≡ extra * devices }
+    ensures few { result ≤ 17179869180 }
+{
+    extra as usize * devices
+}
+
 // How many events may come that are not steps of threads.
 fn beside(cfg: &Config, drive: Drive, extra: u32) -> usize
     requires { length cfg.now.devices ≤ 4 }
-    ensures { result ≡ events_beside cfg.now drive extra }
+    ensures exact { result ≡ events_beside cfg.now drive extra }
+    ensures few { result ≤ 17179869180 }
 {
     match drive {
         Drive::Script => extra as usize,
-        Drive::Threads => extra as usize * cfg.devices.len(),
+        Drive::Threads => rings_of(extra, cfg.devices.len()),
+    }
+}
+
+// Four items for each step, and one for each other event.
+fn items_for(steps: usize, others: usize) -> usize
+    requires steps { steps ≤ 250000 }
+    requires others { others ≤ 17179869180 }
+    ensures { result ≡ 4 * steps + others }
+{
+    4 * steps + others
+}
+
+// How many items the log of a run may have.
+fn most_items(cfg: &Config, drive: Drive, extra: u32) -> usize
+    requires steps { sum_by (λ thread. thread.steps) cfg.now.threads ≤ 250000 }
+    requires devices { length cfg.now.devices ≤ 4 }
+    ensures { result ≡ boot_room cfg.now drive extra }
+{
+    let steps = total_steps(cfg.threads.as_slice());
+    let others = beside(cfg, drive, extra);
+    items_for(steps, others)
+}
+
+// No device has made a ring.
+fn no_rings(alloc: Global, cfg: &Config) -> Result<Items<u32>, OutOfMemory>
+    ensures { IfOk result (λ rings. rings ≡ replicate (length cfg.now.devices) 0) }
+{
+    let devices = cfg.devices.len();
+    Items::filled(alloc, 0, devices)
+}
+
+// No end is written yet, and there is room for that of each thread.
+fn no_ends(alloc: Global, cfg: &Config) -> Result<Vec<End>, OutOfMemory>
+    ensures { IfOk result (λ ends. HasEnds cfg.now ends.items (vec_capacity ends)) }
+{
+    let threads = cfg.threads.len();
+    let ends = Vec::with_capacity(alloc, threads)?;
+    Ok(ends)
+}
+
+// What a machine at its start has besides its configuration.
+#[derive(Drop)]
+struct Opening {
+    state: State,
+    journal: Journal,
+    rings: Items<u32>,
+    ends: Vec<End>,
+}
+
+// All that a machine takes memory for.
+fn opened(alloc: Global, cfg: &Config, drive: Drive, extra: u32) -> Result<Opening, OutOfMemory>
+    requires { IsSound cfg.now }
+    ensures { IfOk result (λ opening. IsOpening cfg.now drive extra opening.state opening.journal
+        opening.rings opening.ends.items (vec_capacity opening.ends)) }
+{
+    let room = most_items(cfg, drive, extra);
+    let journal = Journal::new(alloc, room)?;
+    let rings = no_rings(alloc, cfg)?;
+    let ends = no_ends(alloc, cfg)?;
+    let state = State::opening(alloc, cfg)?;
+    Ok(Opening {
+        state,
+        journal,
+        rings,
+        ends,
+    })
+}
+
+// The machine of a configuration and its opening.
+fn assembled(config: Config, drive: Drive, extra: u32, opening: Opening) -> Machine
+    requires sound { IsSound config }
+    requires opening { IsOpening config drive extra opening.state opening.journal
+        opening.rings opening.ends.items (vec_capacity opening.ends) }
+    ensures { result ≡ booted config drive extra }
+{
+    let Opening {
+        state,
+        journal,
+        rings,
+        ends,
+    } = opening;
+    Machine {
+        config,
+        drive,
+        extra,
+        state,
+        journal,
+        rings,
+        ends,
     }
 }
 
@@ -104,6 +215,8 @@ fn write_ends(threads: &[ThreadState], ends: &mut Vec<End>)
     }
 }
 
+mod turns;
+
 impl Machine {
     /// A machine that has done nothing yet. It takes all memory that its run needs.
     pub fn boot(
@@ -115,19 +228,8 @@ impl Machine {
         requires { IsSound config }
         ensures { IfOk result (λ machine. machine ≡ booted config drive extra) }
     {
-        let steps = total_steps(config.threads.as_slice());
-        let room = 4 * steps + beside(&config, drive, extra);
-        let state = State::opening(alloc, &config)?;
-        let journal = Journal::new(alloc, room)?;
-        let ends = Vec::with_capacity(alloc, config.threads.len())?;
-        Ok(Machine {
-            config,
-            drive,
-            extra,
-            state,
-            journal,
-            ends,
-        })
+        let opening = opened(alloc, &config, drive, extra)?;
+        Ok(assembled(config, drive, extra, opening))
     }
 
     /// The configuration.
@@ -137,7 +239,8 @@ impl Machine {
         &self.config
     }
 
-    /// How many extra events may come.
+    /// With the script's drive, how many extra events may come; with running threads, how many rings each device may
+    /// make.
     pub fn extra(&self) -> u32
         ensures { result ≡ self.now.extra }
     {
@@ -153,7 +256,9 @@ impl Machine {
 
     /// What the thread wants: room in the inbox of a box, the next call, or neither.
     pub fn wants(&self, t: ThreadId) -> Want
-        ensures { result ≡ want_of self.now.config (world_of self.now).flat t.0 }
+        ensures exact { result ≡ want_of self.now.config (world_of self.now).flat t.0 }
+        ensures room { (b : BoxId) → result ≡ Want.Room b → b.0 < length self.now.config.boxes }
+        ensures server { result ≡ Want.Next → serves_box self.now.config t.0 ≡ true }
     {
         self.state.wants(&self.config, t)
     }
@@ -166,7 +271,8 @@ impl Machine {
         ensures { self.new ≡ stepped self.old t }
     {
         let extra = extra_after(self.extra, self.state.has_ended(t));
-        self.state.step(&self.config, t, &mut self.journal);
+        self.state
+            .step(&self.config, t, Order::Word, &mut self.journal);
         self.extra = extra;
     }
 
@@ -177,8 +283,20 @@ impl Machine {
         requires extra { 1 ≤ self.old.extra }
         ensures { self.new ≡ rung self.old line }
     {
-        self.state.ring(line, &mut self.journal);
+        self.state.ring(line, 0, &mut self.journal);
         self.extra -= 1;
+    }
+
+    // What a thread does at once, and what it is answered.
+    fn act(&mut self, t: ThreadId, deed: Deed) -> Reply
+        requires { IsReady self.old t deed }
+        ensures event { self.new ≡ after_event self.old (choice_by t deed) }
+        ensures reply { result ≡ (entry_now self.old (choice_by t deed)).reply }
+        ensures legal { IsLegal self.new.config (log_now self.new) }
+        ensures grown { HasGrown self.old self.new t.0 }
+    {
+        let order = Order::Given(deed);
+        self.state.step(&self.config, t, order, &mut self.journal)
     }
 
     /// The configuration, and the log with the end of each thread. It takes no memory.
@@ -194,6 +312,7 @@ impl Machine {
             extra: _,
             state,
             journal,
+            rings: _,
             mut ends,
         } = self;
         write_ends(state.threads(), &mut ends);

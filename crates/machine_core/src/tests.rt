@@ -3,35 +3,13 @@ ghost use Rattle.machine_core.specs.Fixture as fixture;
 
 use crate::Machine;
 use flat_model::{
-    Board, BoxId, BoxPart, Choice, Config, Drive, End, Entry, FlatState, Flaw, Instr, IrqPart,
-    Item, Items, Kind, Line, Log, Logged, Mode, OutOfMemory, Pair, Range, Reply, Rights, RpcGate,
-    Text, ThreadId, ThreadPart, UnitLine, Verdict, Want, flat_step,
+    BoxId, BoxPart, Choice, Config, Drive, End, Entry, FlatState, Flaw, Instr, IrqPart, Items,
+    Kind, Line, Log, Logged, Mode, OutOfMemory, Pair, Reply, RpcGate, ThreadId, UnitLine, Verdict,
+    Want, flat_step,
 };
+use sample_board::{config, part, thread};
 use std::alloc::Global;
 use std::test::Fail;
-
-const FLASH: Range = Range {
-    base: 0,
-    len: 0x10_0000,
-};
-
-const SRAM: Range = Range {
-    base: 0x2000_0000,
-    len: 0x2_0000,
-};
-
-const PERIPHERALS: Range = Range {
-    base: 0x4000_0000,
-    len: 0x10_0000,
-};
-
-const GRANT: Item = Item {
-    range: Range {
-        base: 0x4000_0020,
-        len: 0xE0,
-    },
-    rights: Rights::READ_WRITE,
-};
 
 const LINE: Line = Line(5);
 
@@ -52,63 +30,13 @@ const RING: Choice = Choice::Ring { line: LINE, by: 0 };
 // The threads that step, in order.
 const STEPS: [u8; 11] = [0, 0, 2, 2, 0, 1, 1, 3, 3, 3, 0];
 
-fn board(alloc: Global) -> Board
-    ensures { result ≡ fixture.board }
+// The two boxes `a` and `b`, the first with the line.
+fn boxes(alloc: Global) -> Result<Items<BoxPart>, OutOfMemory>
+    ensures { IfOk result (λ boxes. boxes ≡ fixture.two_boxes.boxes) }
 {
-    Board {
-        flash: FLASH,
-        sram: SRAM,
-        peripherals: PERIPHERALS,
-        secret: None,
-        words: Items::from_vec(Vec::new(alloc)),
-        heap: None,
-    }
-}
-
-// A box of 256 bytes with two threads, the first of which is its server.
-fn part(
-    alloc: Global,
-    name: &str,
-    base: u32,
-    first: u8,
-    grants: &[Item],
-    irqs: &[IrqPart],
-) -> Result<BoxPart, OutOfMemory>
-    ensures { IfOk result (λ part. part ≡ fixture.part name.now base first grants.now irqs.now) }
-{
-    let own = Range { base, len: 256 };
-    let flash = Item {
-        range: FLASH,
-        rights: Rights::READ_EXECUTE,
-    };
-    let ram = Item {
-        range: own,
-        rights: Rights::READ_WRITE,
-    };
-    let mut items = vec![in alloc; flash, ram]?;
-    items.extend_from_slice(grants)?;
-    let granted = Vec::from_slice(alloc, grants)?;
-    Ok(BoxPart {
-        name: Text::from_string(String::from_str(alloc, name)?),
-        own,
-        secret: false,
-        first: first as u32,
-        threads: 2,
-        server: ThreadId(first),
-        items: Items::from_vec(items),
-        grants: Items::from_vec(granted),
-        irqs: Items::from_vec(Vec::from_slice(alloc, irqs)?),
-    })
-}
-
-fn thread(alloc: Global, home: u8, program: &[Instr], steps: u32) -> Result<ThreadPart, OutOfMemory>
-    ensures { IfOk result (λ thread. thread ≡ fixture.thread home program.now steps) }
-{
-    Ok(ThreadPart {
-        home: BoxId(home),
-        program: Items::from_vec(Vec::from_slice(alloc, program)?),
-        steps,
-    })
+    let a = part(alloc, 0, 0, 2, &[IRQ])?;
+    let b = part(alloc, 1, 2, 2, &[])?;
+    Ok(Items::from_vec(vec![in alloc; a, b]?))
 }
 
 // Two boxes of two threads: `a` stores and loads in its own memory and by its grant, and comes to a
@@ -129,24 +57,14 @@ fn two_boxes(alloc: Global) -> Result<Config, OutOfMemory>
     ];
     let prying = [Instr::Set(0, 0x2000_0000), Instr::Load32(1, 0, 0)];
     let turning = [Instr::Set(1, 1), Instr::Jump(0)];
-    let a = part(alloc, "a", 0x2000_0000, 0, &[GRANT], &[IRQ])?;
-    let b = part(alloc, "b", 0x2000_0100, 2, &[], &[])?;
-    let boxes = vec![in alloc; a, b]?;
     let first = thread(alloc, 0, &storing, 100)?;
     let second = thread(alloc, 0, &using, 100)?;
     let third = thread(alloc, 1, &prying, 100)?;
     let fourth = thread(alloc, 1, &turning, 2)?;
     let threads = vec![in alloc; first, second, third, fourth]?;
-    Ok(Config {
-        version: 1,
-        board: board(alloc),
-        boxes: Items::from_vec(boxes),
-        threads: Items::from_vec(threads),
-        registers: Items::from_vec(Vec::new(alloc)),
-        gateways: Items::from_vec(vec![in alloc; GATE]?),
-        devices: Items::from_vec(Vec::new(alloc)),
-        script: Items::from_vec(Vec::new(alloc)),
-    })
+    let mut cfg = config(alloc, boxes(alloc)?, Items::from_vec(threads));
+    cfg.gateways = Items::from_vec(vec![in alloc; GATE]?);
+    Ok(cfg)
 }
 
 // A step of a thread that is there, and has not ended where no extra event may come.

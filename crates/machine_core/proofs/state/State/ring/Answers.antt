@@ -16,8 +16,8 @@ invariant_of-self c =
     let owned = subst (λ (v : MachineState). is_owned_line v.config c.args.line.0 ≡ true) (sym c.self.view_is) c.requires.owned in (
       c.self.invariant.0 ∙ sym (ap (λ (k : KernelState). k.config) c.ring.ensures),
       subst (λ (k : KernelState). IsKeptState k.config (world_with k m.threads m.unit.unit)) (sym c.ring.ensures)
-          (subst (IsKeptState m.kernel.config) (sym (ring-world m.kernel.config m.kernel m.threads m.unit.unit c.args.line owned))
-          (kept-after m.kernel.config w (choice.Ring c.args.line 0) c.self.invariant.1)),
+          (subst (IsKeptState m.kernel.config) (sym (ring-world m.kernel.config m.kernel m.threads m.unit.unit c.args.line c.args.by owned))
+          (kept-after m.kernel.config w (choice.Ring c.args.line c.args.by) c.self.invariant.1)),
     )
 
 pub returns-clause-state : goal.returns-clause-state
@@ -25,10 +25,10 @@ returns-clause-state c =
     let m = c.self.inside in
     let owned = subst (λ (v : MachineState). is_owned_line v.config c.args.line.0 ≡ true) (sym c.self.view_is) c.requires.owned in
     ap (λ (k : KernelState). state_of k.config (world_with k m.threads m.unit.unit)) c.ring.ensures
-    ∙ ap (state_of m.kernel.config) (ring-world m.kernel.config m.kernel m.threads m.unit.unit c.args.line owned)
-    ∙ ap (λ (v : MachineState). after_choice v (choice.Ring c.args.line 0)) c.self.view_is
+    ∙ ap (state_of m.kernel.config) (ring-world m.kernel.config m.kernel m.threads m.unit.unit c.args.line c.args.by owned)
+    ∙ ap (λ (v : MachineState). after_choice v (choice.Ring c.args.line c.args.by)) c.self.view_is
 
 pub returns-clause-journal : goal.returns-clause-journal
 returns-clause-journal c =
     let s = c.args.self.now in
-    c.note.ensures ∙ ring-noted s.config s.world c.args.line c.args.journal.now c.requires.owned
+    c.note.ensures ∙ ring-noted s.config s.world c.args.line c.args.by c.args.journal.now c.requires.owned
