@@ -5,7 +5,8 @@
 # NAME.board-map, NAME.map.svg, NAME.run.svg and, in refused/, NAME.lint are those of the tools; NAME.map and NAME.who come
 # from NAME.check alone. NAME.slots, NAME.told (explain), NAME.who-after, NAME.map-after and NAME.map-after.svg are those at
 # the line of the log that stands in NAME.line-number; the address of NAME.who and NAME.who-after stands in NAME.address.
-# What `main` answers to words that are no command, and with its output closed, is compared with what is due.
+# What `main` answers to words that are no command, and with its output closed, is compared with what is due, and the counts
+# of a made input with 09-made.tally.
 # It runs the proved build where there is one, else an unproved build that it makes once for each command. Then the tools
 # that run the program themselves are passed over, since each call would make a build of its own.
 # Prints 'N of N as stored', and ends with 1 where something differs.
@@ -157,7 +158,10 @@ usage='usage: uvisor script | threads | check | make N | tally N
 '
 words "no word" 2 "$usage"
 words "a wrong word" 2 "$usage" scripts
+words "a number with a leading zero" 2 "$usage" make 007
 if [ -x "$proved" ]; then
+    words "the counts of a made input" 0 "$(cat examples/09-made.tally)
+" tally 1
     words "a word that is not UTF-8" 2 "$usage" $'check\xff'
     closed "a closed output of script" 4 script
     closed "a closed output of check" 4 check

@@ -10,6 +10,7 @@ pub mod FrameEvents
 pub mod FreeOnes
 pub mod HeldGrants
 pub mod LogPlaces
+pub mod MakingRuns
 pub mod OneOwner
 pub mod Runs
 pub mod Scripts

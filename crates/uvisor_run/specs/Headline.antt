@@ -6,15 +6,19 @@ use Rattle.io_edge.specs.Counts.{IsCounted}
 use Rattle.io_edge.specs.Written.{WrotePart}
 use Rattle.flat_model.specs.declared.logs.Log.{Log}
 use Rattle.flat_model.specs.declared.parts.Config.{Config}
-use Rattle.flat_model.specs.Legal.{IsAgreed, IsFlatRun, IsUnitRun}
+use Rattle.flat_model.specs.Legal.{IsAgreed, IsFlatRun, IsLegal, IsUnitRun}
 use Rattle.flat_model.specs.Log.{choices_of}
 use Rattle.flat_model.specs.Script.{script_choices}
 use Rattle.flat_model.specs.Sound.{IsSound}
 use Rattle.flat_model.specs.Text.{text_of}
 use Rattle.uvisor_run.specs.declared.commands.Command.{Command}
 use Rattle.uvisor_run.specs.declared.commands.Command.TheVariants.{Script}
+use Rattle.uvisor_run.specs.declared.commands.Making.{Making}
+use Rattle.uvisor_run.specs.declared.commands.Making.TheVariants.{Tally}
 use Rattle.uvisor_run.specs.Accept.{config_of}
-use Rattle.uvisor_run.specs.Output.{Output, output_of, usage_output}
+use Rattle.uvisor_run.specs.Output.{Output, output_of, output_of_making, usage_output}
+use Rattle.workload.specs.MadeInput.{made_input}
+use Rattle.workload.specs.Tally.{tally_line}
 
 -- these are the bytes that the source had left, where it tells them
 abbrev pub WereLeft : Option (List ℕ) → List ℕ → Type 0
@@ -101,3 +105,22 @@ pub record IsCommandRun (command : Command) (left left_now : Option (List ℕ)) 
   pub memory : status ≡ 5 → now ≡ written
   pub reads : IsCounted (status ≡ 3) failed_reads failed_reads_now
   pub writes : IsCounted (status ≡ 4) failed_writes failed_writes_now
+
+-- The script of the input that is made from this number was run: what was written is the line of the counts of its one
+-- log, which is a run of both machines and isolates each box.
+pub record IsTallied (n : ℕ) (written now : Option (List ℕ)) : Type 0 where
+  pub config : Config
+  pub log : Log
+  pub accepted : config_of (made_input n) ≡ Ok config
+  pub choices : choices_of log.items ≡ script_choices config
+  pub legal : IsLegal config log
+  pub isolation : Isolated config log
+  pub text : now ≡ append_known written (tally_line n log)
+
+-- What is known of a run of a command that makes its input, by its status. Nothing is read.
+pub record IsMakingRun (making : Making) (left left_now : Option (List ℕ)) (failed_reads failed_reads_now : ℕ) (written now : Option (List ℕ)) (failed_writes failed_writes_now status : ℕ) : Type 0 where
+  pub known : (status ≤ 1) ⊎ ((status ≡ 4) ⊎ (status ≡ 5))
+  pub told : IsToldInMemory (output_of_making making) written now failed_writes failed_writes_now status
+  pub tallied : status ≡ 0 → (n : ℕ) → making ≡ Tally n → IsTallied n written now
+  pub nothing_taken : left_now ≡ left
+  pub nothing_failed : failed_reads_now ≡ failed_reads

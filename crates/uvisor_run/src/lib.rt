@@ -8,6 +8,7 @@ mod check_text;
 mod check_writing;
 mod commands;
 mod laws;
+mod made;
 mod refusal_text;
 mod scripting;
 #[cfg(test)]

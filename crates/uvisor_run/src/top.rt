@@ -3,13 +3,14 @@ ghost use Rattle.flat_model.specs.Log.{IsNamed};
 ghost use Rattle.flat_model.specs.OneLog.{script_log};
 ghost use Rattle.flat_model.specs.Sound.{IsSound};
 ghost use Rattle.io_edge.specs.Counts.{Rose};
-ghost use Rattle.uvisor_run.specs.Headline.{HasConfig, IsAnswered, IsCommandRun, IsTold, IsToldInMemory, IsUsageRun};
-ghost use Rattle.uvisor_run.specs.Output.{command_of, log_output, output_for, output_of};
+ghost use Rattle.uvisor_run.specs.Headline.{HasConfig, IsAnswered, IsCommandRun, IsDone, IsMakingRun, IsTold, IsToldInMemory, IsUsageRun};
+ghost use Rattle.uvisor_run.specs.Output.{command_of, log_output, making_of, output_for, output_of, output_of_making};
 
 use crate::acceptance::{Accepted, INPUT_LIMIT, accept_document};
 use crate::answers::{NO_MEMORY, READ_FAULT, WRITE_FAULT, answer_refusal, answer_usage};
 use crate::check_writing::write_check;
-use crate::commands::{Command, command_of};
+use crate::commands::{Command, command_of, making_of};
+use crate::made::serve_making;
 use crate::scripting::run_script;
 use flat_model::{Config, ConfigErr, Log, Refused};
 use io_edge::{ReadErr, Sink, Source, WriteErr, read_all};
@@ -105,9 +106,9 @@ fn serve<S: Source, K: Sink>(alloc: Global, command: Command, source: &mut S, si
 }
 
 /// Does what the words after the program's name say, and answers the status (docs/MANUAL.md):
-/// `script` and `check` read the source and write to the sink; other words are no command, and the
-/// usage line is written.
-#[tactic(auto, using(crate::proofs::Told::run_complete))]
+/// `script` and `check` read the source and write to the sink, `make N` and `tally N` make their
+/// input and write to the sink; other words are no command, and the usage line is written.
+#[tactic(auto, using(crate::proofs::Told::run_complete, crate::proofs::MakingRuns::making_run, crate::proofs::MakingRuns::making_done, crate::proofs::MakingRuns::no_making))]
 pub fn scripted<S: Source, K: Sink>(
     alloc: Global,
     words: &Vec<String>,
@@ -115,7 +116,8 @@ pub fn scripted<S: Source, K: Sink>(
     sink: &mut K,
 ) -> u8
     // Words that are no command: the usage line, whatever the source.
-    ensures usage { IsNone (command_of (map string_bytes words.now.items)) → IsUsageRun
+    ensures usage { IsNone (command_of (map string_bytes words.now.items))
+        → IsNone (making_of (map string_bytes words.now.items)) → IsUsageRun
         (S.left source.old) (S.left source.new) (S.faults source.old) (S.faults source.new)
         (K.written sink.old) (K.written sink.new) (K.faults sink.old) (K.faults sink.new) result }
 
@@ -130,9 +132,23 @@ pub fn scripted<S: Source, K: Sink>(
         ¬ Rose (S.faults source.old) (S.faults source.new)
         → ¬ Rose (K.faults sink.old) (K.faults sink.new) → result ≢ 5
         → IsAnswered command (S.left source.old) (K.written sink.old) (K.written sink.new) result) }
+
+    // A command that makes its input: what is known of each status. Nothing is read.
+    ensures making { IfSome (making_of (map string_bytes words.now.items)) (λ making.
+        IsMakingRun making
+        (S.left source.old) (S.left source.new) (S.faults source.old) (S.faults source.new)
+        (K.written sink.old) (K.written sink.new) (K.faults sink.old) (K.faults sink.new) result) }
+
+    // Where the sink's count did not rise, it is answered, or memory was refused.
+    ensures making_complete { IfSome (making_of (map string_bytes words.now.items)) (λ making.
+        ¬ Rose (K.faults sink.old) (K.faults sink.new) → result ≢ 5
+        → IsDone (output_of_making making) (K.written sink.old) (K.written sink.new) result) }
 {
     match command_of(words) {
         Some(command) => serve(alloc, command, source, sink),
-        None => answer_usage(sink),
+        None => match making_of(words) {
+            Some(making) => serve_making(alloc, making, sink),
+            None => answer_usage(sink),
+        },
     }
 }

@@ -42,7 +42,7 @@ fn commands_answer_inputs(rt: HostRuntime) -> Result<(), Fail> {
 
 #[test]
 fn other_words_print_the_usage_and_read_nothing(rt: HostRuntime) -> Result<(), Fail> {
-    let table: [&[&str]; 9] = [
+    let table: [&[&str]; 19] = [
         &[],
         &[""],
         &["run"],
@@ -52,6 +52,16 @@ fn other_words_print_the_usage_and_read_nothing(rt: HostRuntime) -> Result<(), F
         &["make", "0"],
         &["make", "007"],
         &["make"],
+        &["make", "65536"],
+        &["make", "-1"],
+        &["make", "+1"],
+        &["make", "1", "2"],
+        &["Make", "1"],
+        &["1", "make"],
+        &["script", "1"],
+        &["tally"],
+        &["tally", "x"],
+        &["tally", "0"],
     ];
     for words in table {
         let answer = answer_to(rt.alloc(), words, ONE_BOX.as_bytes())?;

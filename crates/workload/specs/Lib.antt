@@ -1,0 +1,6 @@
+pub mod Generator
+pub mod InputNumber
+pub mod Kinds
+pub mod MadeInput
+pub mod Tally
+pub mod Templates
